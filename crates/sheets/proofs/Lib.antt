@@ -1,0 +1,6 @@
+mod Pieces
+mod Known
+mod Tells
+mod Moved
+mod Turned
+mod Lines
