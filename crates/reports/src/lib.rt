@@ -1,0 +1,50 @@
+// What programs print of a sheet.
+ghost use mathlib.Core.Path.{_≡_};
+ghost use mathlib.Core.List.{_++_};
+ghost use Rattle.std.specs.Of.String.{string-bytes};
+ghost use Rattle.std.specs.Vec.{made};
+ghost use Rattle.sheets.specs.Blocks.{blocks-of};
+ghost use lib.Chars.{codes};
+ghost use Rattle.std.specs.Written.{decimal};
+ghost use Rattle.reports.specs.Reports.{newline, sheet-report, text-report};
+use answers::BlockNumber;
+use answers::RefusalDisplay;
+use sheets::Sheet;
+use std::alloc::AllocError;
+use std::alloc::Global;
+use std::fmt::Write;
+
+// Cuts a text into a new sheet: the count of blocks and a line with number and length for each, or the refusal.
+pub fn text_report(heap: Global, text: &[u8]) -> Result<String, AllocError>
+    ensures { λ r. ⌜ made r (λ s. string-bytes s ≡ text-report (now (text .entry))) ⌝ }
+{
+    let mut sheet = Sheet::new(heap)?;
+    match sheet.cut(text) {
+        Ok(_) => sheet_report(heap, &sheet),
+        Err(refusal) => format!(heap, "{refusal}\n"),
+    }
+}
+
+// The count of blocks, and a line with number and length for each.
+pub fn sheet_report(heap: Global, sheet: &Sheet) -> Result<String, AllocError>
+    ensures { λ r. ⌜ made r (λ s. string-bytes s ≡ sheet-report (blocks-of (now (sheet .entry)))) ⌝ }
+{
+    let count = sheet.block_count();
+    let mut report = format!(heap, "blocks {count}\n")?;
+    for index in 0..count {
+        let number = index + 1;
+        if let Ok(block) = sheet.block(BlockNumber(number)) {
+            push_line(&mut report, number, block.len())?;
+        }
+    }
+    Ok(report)
+}
+
+fn push_line(report: &mut String, number: u16, length: usize) -> Result<(), AllocError>
+    ensures { λ r. ⌜ made r (λ _. string-bytes (now (report .exit)) ≡ string-bytes (now (report .entry)) ++ (decimal number ++ (codes " " ++ (decimal length ++ newline)))) ⌝ }
+{
+    match writeln!(report, "{number} {length}") {
+        Ok(()) => Ok(()),
+        Err(_) => Err(AllocError),
+    }
+}
