@@ -22,7 +22,6 @@ lines-from i bs = block-lines (i + 1) (drop i bs)
 
 module _ (bs : List Bytes) (i : ℕ) where
   pub found : i < length bs → block-answer bs (i + 1) ≡ Ok (getD bs i [])
-  unfolding block-answer no-block block-at
   found h =
       let here : (i + 1) - 1 ≡ i = omega arith in
       let is : eqb (i + 1) 0 ≡ false = grind (arith, tells) in
@@ -36,14 +35,3 @@ module _ (bs : List Bytes) (i : ℕ) where
   pub lines-all : length bs ≤ i → lines-from i bs ≡ []
   unfolding block-lines
   lines-all h = at-drop-all (block-lines (i + 1)) bs i h
-
-module _ (bs : List Bytes) (none : bs ≡ []) (text : Bytes) where
-  report-at : (r : Result ℕ Refusal) → r ≡ cut-answer bs text → text-report text ≡ report-of r (sheet-report (lines text))
-  unfolding text-report
-  report-at r e = ap (λ a. report-of a (sheet-report (lines text))) (ap (λ t. cut-answer t text) (sym none) ∙ sym e)
-
-  pub report-ok : (n : ℕ) → Ok n ≡ cut-answer bs text → text-report text ≡ sheet-report (lines text)
-  report-ok n e = report-at (Ok n) e
-
-  pub report-err : (r : Refusal) → Err r ≡ cut-answer bs text → text-report text ≡ shown-as r ++ newline
-  report-err r e = report-at (Err r) e

@@ -24,8 +24,8 @@ block-lines j [] = []
 block-lines j (b ∷ bs) = block-line j b ++ block-lines (j + 1) bs
 
 -- the count of blocks, and a line for each
-unfoldable pub sheet-report : List Bytes → Bytes
-sheet-report bs = codes "blocks " ++ (decimal (length bs) ++ (newline ++ block-lines 1 bs))
+abbrev pub sheet-report : List Bytes → Bytes
+sheet-report bs = (codes "blocks " ++ (decimal (length bs) ++ newline)) ++ block-lines 1 bs
 
 -- the report of a call: the good one, or the line of its refusal
 abbrev pub report-of : Result ℕ Refusal → Bytes → Bytes
@@ -33,5 +33,5 @@ report-of (Ok n) good = good
 report-of (Err e) good = shown-as e ++ newline
 
 -- the report of a text that is cut into a new sheet
-unfoldable pub text-report : Bytes → Bytes
+abbrev pub text-report : Bytes → Bytes
 text-report text = report-of (cut-answer [] text) (sheet-report (lines text))

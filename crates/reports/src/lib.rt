@@ -6,7 +6,7 @@ ghost use Rattle.std.specs.Vec.{made};
 ghost use Rattle.sheets.specs.Blocks.{blocks-of};
 ghost use lib.Chars.{codes};
 ghost use Rattle.std.specs.Written.{decimal};
-ghost use Rattle.reports.specs.Reports.{newline, sheet-report, text-report};
+ghost use Rattle.reports.specs.Reports.{newline, block-lines, sheet-report, text-report};
 use answers::BlockNumber;
 use answers::RefusalDisplay;
 use sheets::Sheet;
@@ -31,13 +31,20 @@ pub fn sheet_report(heap: Global, sheet: &Sheet) -> Result<String, AllocError>
 {
     let count = sheet.block_count();
     let mut report = format!(heap, "blocks {count}\n")?;
-    for index in 0..count {
+    push_block_lines(&mut report, sheet)?;
+    Ok(report)
+}
+
+fn push_block_lines(report: &mut String, sheet: &Sheet) -> Result<(), AllocError>
+    ensures { λ r. ⌜ made r (λ _. string-bytes (now (report .exit)) ≡ string-bytes (now (report .entry)) ++ block-lines 1 (blocks-of (now (sheet .entry)))) ⌝ }
+{
+    for index in 0..sheet.block_count() {
         let number = index + 1;
         if let Ok(block) = sheet.block(BlockNumber(number)) {
-            push_line(&mut report, number, block.len())?;
+            push_line(report, number, block.len())?;
         }
     }
-    Ok(report)
+    Ok(())
 }
 
 fn push_line(report: &mut String, number: u16, length: usize) -> Result<(), AllocError>

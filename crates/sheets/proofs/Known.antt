@@ -7,15 +7,13 @@ use native.Mathlib.Nat.{zero-add, sub-zero}
 use native.Mathlib.Omega.{arith}
 use lib.ListN.{length, getD, set, take, drop, length-drop}
 use Rattle.std.specs.Of.Vec.{vec-items, vec-len}
-use Rattle.std.proofs.shelf.Lists.{getD-read-under, length-take-le, nil-from-length}
+use Rattle.std.proofs.shelf.Lists.{length-take-le, nil-from-length}
 use Rattle.sheets.specs.declared.sheet.Sheet.{Sheet}
 use Rattle.sheets.specs.Table.{pieces, rises, moved}
-use Rattle.sheets.specs.Blocks.{blocks-of}
+use Rattle.sheets.specs.Blocks.{blocks-of, Stands}
 use Rattle.sheets.specs.Calls.{total-bytes, with-block}
+use Rattle.sheets.proofs.Tells.{block-ok, block-allows}
 use Rattle.sheets.proofs.Pieces.{Rises, risen, rising, bounds, later, length-pieces, total-pieces, piece-at, total-set, pieces-set, rises-moved}
-
-before : (ends : List ℕ) (i : ℕ) → 1 ≤ i → getD (0 ∷ ends) i 0 ≡ getD ends (i - 1) 0
-before ends i h = let e : i ≡ suc (i - 1) = omega arith in ap (λ k. getD (0 ∷ ends) k 0) e
 
 module _ (s : Sheet) where
   pub risen-to-end : Rises 0 (vec-items (s .ends)) (0 + length (vec-items (s .bytes)))
@@ -45,44 +43,62 @@ module _ (s : Sheet) where
   block-is i from to h e f =
       piece-at 0 (vec-items (s .ends)) (vec-items (s .bytes)) i risen-to-end (omega (arith, s .ends .ok .0)) ∙ simp (sub-zero, ← e, ← f)
 
-  -- what was read of the table
-  pub read-end : (i x : ℕ) → x ≡ getD (vec-items (s .ends)) i x → i < vec-len (s .ends) → x ≡ getD (vec-items (s .ends)) i 0
-  read-end i x e h = getD-read-under (vec-items (s .ends)) i (vec-len (s .ends)) x 0 e h (s .ends .ok .0)
+  -- what is read of the table for a block that is there
+  pub stands : (j from : ℕ) (ends : List ℕ) → ends ≡ vec-items (s .ends) → 1 ≤ j → j ≤ length (blocks-of s) → from ≡ getD (0 ∷ ends) (j - 1) 0 → Stands s j from (getD ends (j - 1) 0)
+  stands j from ends e low high at =
+      let i = j - 1 in
+      let short : i < vec-len (s .ends) = omega (arith, count-is) in
+      let at′ : from ≡ getD (0 ∷ vec-items (s .ends)) i 0 = at ∙ ap (λ es. getD (0 ∷ es) i 0) e in
+      let until : getD ends i 0 ≡ getD (vec-items (s .ends)) i 0 = ap (λ es. getD es i 0) e in
+      let l = lies i short in
+      record {
+        forward = omega (arith, at′, until, l);
+        inside = omega (arith, until, l, size-is);
+        from-is = at′;
+        to-is = until;
+        block-is = block-ok (blocks-of s) j _ low high (block-is i from (getD ends i 0) short at′ until);
+      }
 
-  pub read-start : (i x : ℕ) → x ≡ getD (vec-items (s .ends)) (i - 1) x → 1 ≤ i → i < vec-len (s .ends) → x ≡ getD (0 ∷ vec-items (s .ends)) i 0
-  read-start i x e k h = read-end (i - 1) x e (omega arith) ∙ sym (before (vec-items (s .ends)) i k)
+  -- the start of the first block, and of another
+  pub starts-first : (ends : List ℕ) (i : ℕ) → i ≡ 0 → 0 ≡ getD (0 ∷ ends) i 0
+  starts-first ends i e = ap (λ k. getD (0 ∷ ends) k 0) (sym e)
 
-  module _ (i from to : ℕ) (short : i < vec-len (s .ends)) (at : from ≡ getD (0 ∷ vec-items (s .ends)) i 0) (until : to ≡ getD (vec-items (s .ends)) i 0) where
-    short′ : i < length (vec-items (s .ends))
-    short′ = omega (arith, s .ends .ok .0)
+  pub starts-later : (ends : List ℕ) (i : ℕ) → 1 ≤ i → getD ends (i - 1) 0 ≡ getD (0 ∷ ends) i 0
+  starts-later ends i h = let e : suc (i - 1) ≡ i = omega arith in ap (λ k. getD (0 ∷ ends) k 0) e
 
-    block-size : length (getD (blocks-of s) i []) ≡ to - from
+  -- a block that stands in the bytes, and other bytes in its stead
+  module _ (j from to : ℕ) (h : Stands s j from to) where
+    there : (1 ≤ j) × (j ≤ length (blocks-of s))
+    there = block-allows (blocks-of s) j _ (h .block-is)
+
+    pub short : j - 1 < vec-len (s .ends)
+    short = omega (arith, there, count-is)
+
+    short′ : j - 1 < length (vec-items (s .ends))
+    short′ = omega (arith, short, s .ends .ok .0)
+
+    block-size : length (getD (blocks-of s) (j - 1) []) ≡ to - from
     block-size =
-        let l = lies i short in
-        ap length (block-is i from to short at until) ∙ length-take-le (to - from) (drop from (vec-items (s .bytes))) (simp length-drop (omega (arith, l, s .bytes .ok .0)))
+        let l = lies (j - 1) short in
+        ap length (block-is (j - 1) from to short (h .from-is) (h .to-is))
+        ∙ length-take-le (to - from) (drop from (vec-items (s .bytes))) (simp length-drop (omega (arith, h .forward, h .inside, size-is, s .bytes .ok .0)))
 
-    -- the total with the block rewritten
-    pub total-after : (j : ℕ) → i + 1 ≡ j → (b : List ℕ) → total-bytes (with-block (blocks-of s) j b) ≡ vec-len (s .bytes) - (to - from) + length b
-    unfolding with-block
-    total-after j e b =
-        let here : j - 1 ≡ i = omega arith in
-        let sum = total-set (blocks-of s) i b (omega (arith, count-is)) in
-        ap (λ k. total-bytes (set (blocks-of s) k b)) here ∙ omega (arith, size-is, block-size, lies i short)
+    pub total-after : (b : List ℕ) → total-bytes (with-block (blocks-of s) j b) ≡ total-bytes (blocks-of s) - (to - from) + length b
+    total-after b =
+        let sum = total-set (blocks-of s) (j - 1) b (omega (arith, there)) in
+        omega (arith, block-size, h .forward, h .inside)
 
-    -- the ends from the block's on can be moved with it
-    pub room-behind : (k : ℕ) → i ≤ k → k < vec-len (s .ends) → (to ≤ getD (vec-items (s .ends)) k 0) × (getD (vec-items (s .ends)) k 0 ≤ vec-len (s .bytes))
-    room-behind k l h =
-        let b = later 0 (vec-items (s .ends)) (vec-len (s .bytes)) i k (risen 0 (vec-items (s .ends)) (vec-len (s .bytes)) (s .whole)) l (omega (arith, s .ends .ok .0)) in
-        (omega (arith, b .0), b .1)
+    -- the ends from the block's on lie between its end and the last
+    pub room-behind : (k : ℕ) → j - 1 ≤ k → k < vec-len (s .ends) → (to ≤ getD (vec-items (s .ends)) k 0) × (getD (vec-items (s .ends)) k 0 ≤ vec-len (s .bytes))
+    room-behind k l m =
+        let b = later 0 (vec-items (s .ends)) (vec-len (s .bytes)) (j - 1) k (risen 0 (vec-items (s .ends)) (vec-len (s .bytes)) (s .whole)) l (omega (arith, s .ends .ok .0)) in
+        (omega (arith, b .0, h .to-is), b .1)
 
-    pub whole-moved : (on : ℕ) → rises 0 (moved (vec-items (s .ends)) i (to - from) on) (vec-len (s .bytes) - (to - from) + on) ≡ true
+    pub whole-moved : (on : ℕ) → rises 0 (moved (vec-items (s .ends)) (j - 1) (to - from) on) (vec-len (s .bytes) - (to - from) + on) ≡ true
     whole-moved on =
-        rising 0 (moved (vec-items (s .ends)) i (to - from) on) (vec-len (s .bytes) - (to - from) + on)
-        (rw (at, until) (rises-moved 0 (vec-items (s .ends)) (vec-len (s .bytes)) i on (risen 0 (vec-items (s .ends)) (vec-len (s .bytes)) (s .whole)) short′))
+        rising 0 (moved (vec-items (s .ends)) (j - 1) (to - from) on) (vec-len (s .bytes) - (to - from) + on)
+        (rw (h .from-is, h .to-is) (rises-moved 0 (vec-items (s .ends)) (vec-len (s .bytes)) (j - 1) on (risen 0 (vec-items (s .ends)) (vec-len (s .bytes)) (s .whole)) short′))
 
-    pub blocks-after : (j : ℕ) → i + 1 ≡ j → (b : List ℕ)
-        → pieces 0 (moved (vec-items (s .ends)) i (to - from) (length b)) (take from (vec-items (s .bytes)) ++ (b ++ drop to (vec-items (s .bytes)))) ≡ with-block (blocks-of s) j b
-    unfolding with-block
-    blocks-after j e b =
-        let here : i ≡ j - 1 = omega arith in
-        rw (at, until) (simp sub-zero at (pieces-set b 0 (vec-items (s .ends)) (vec-items (s .bytes)) i risen-to-end short′)) ∙ ap (λ k. set (blocks-of s) k b) here
+    pub blocks-after : (b : List ℕ)
+        → pieces 0 (moved (vec-items (s .ends)) (j - 1) (to - from) (length b)) (take from (vec-items (s .bytes)) ++ (b ++ drop to (vec-items (s .bytes)))) ≡ set (blocks-of s) (j - 1) b
+    blocks-after b = rw (h .from-is, h .to-is) (simp sub-zero at (pieces-set b 0 (vec-items (s .ends)) (vec-items (s .bytes)) (j - 1) risen-to-end short′))

@@ -1,6 +1,6 @@
 mod Pieces
-mod Known
 mod Tells
+mod Known
 mod Moved
 mod Turned
 mod Lines

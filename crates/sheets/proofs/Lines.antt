@@ -6,7 +6,7 @@ use Prim.Native.Nat.{ℕ, zero, suc, _+_, _-_, _≤_, _<_}
 use native.Mathlib.Nat.{add-zero, zero-add}
 use native.Mathlib.Omega.{arith}
 use lib.Dec.{eqb}
-use lib.ListN.{length, getD, take, drop, length-append}
+use lib.ListN.{length, getD, take, drop, length-drop}
 use Rattle.std.proofs.shelf.Ways.{tells}
 use Rattle.std.proofs.shelf.Lists.{at-drop-more, at-drop-all, take-at, drop-at, length-push}
 use Rattle.sheets.specs.Table.{Bytes, pieces, line-ends}
@@ -15,14 +15,22 @@ use Rattle.sheets.proofs.Pieces.{Rises, length-pieces}
 
 -- whether the text's line ends with the byte at an index
 abbrev pub ends-at : Bytes → ℕ → Bool
-ends-at text i = eqb (getD text i 0) 10 || eqb (length (drop (i + 1) text)) 0
+ends-at text i = eqb (getD text i 0) 10 || eqb (i + 1) (length text)
 
 module _ (text : Bytes) (i : ℕ) (h : i < length text) where
+  none-left : eqb (length (drop (i + 1) text)) 0 ≡ eqb (i + 1) (length text)
+  none-left = let left = length-drop (i + 1) text in grind (arith, tells)
+
+  step : line-ends i (drop i text) ≡ cond (ends-at text i) ((i + 1) ∷ []) [] ++ line-ends (i + 1) (drop (i + 1) text)
+  step =
+      at-drop-more (line-ends i) text i 0 h
+      ∙ ap (λ v. cond (eqb (getD text i 0) 10 || v) ((i + 1) ∷ []) [] ++ line-ends (i + 1) (drop (i + 1) text)) none-left
+
   pub line-ends-yes : true ≡ ends-at text i → line-ends i (drop i text) ≡ (i + 1) ∷ line-ends (i + 1) (drop (i + 1) text)
-  line-ends-yes e = at-drop-more (line-ends i) text i 0 h ∙ ap (λ v. cond v ((i + 1) ∷ []) [] ++ line-ends (i + 1) (drop (i + 1) text)) (sym e)
+  line-ends-yes e = step ∙ ap (λ v. cond v ((i + 1) ∷ []) [] ++ line-ends (i + 1) (drop (i + 1) text)) (sym e)
 
   pub line-ends-no : false ≡ ends-at text i → line-ends i (drop i text) ≡ line-ends (i + 1) (drop (i + 1) text)
-  line-ends-no e = at-drop-more (line-ends i) text i 0 h ∙ ap (λ v. cond v ((i + 1) ∷ []) [] ++ line-ends (i + 1) (drop (i + 1) text)) (sym e)
+  line-ends-no e = step ∙ ap (λ v. cond v ((i + 1) ∷ []) [] ++ line-ends (i + 1) (drop (i + 1) text)) (sym e)
 
 pub line-ends-all : (text : Bytes) (i : ℕ) → length text ≤ i → line-ends i (drop i text) ≡ []
 line-ends-all text i h = at-drop-all (line-ends i) text i h
@@ -33,7 +41,6 @@ begun p [] = []
 begun p (l ∷ ls) = (p ++ l) ∷ ls
 
 some-line : (x : ℕ) (xs : Bytes) → (l : Bytes) × ((ls : List Bytes) × (lines (x ∷ xs) ≡ l ∷ ls))
-unfolding lines in-front
 some-line x xs =
     elim (eqb x 10) as (λ v. (l : Bytes) × ((ls : List Bytes) × (cond v ((x ∷ []) ∷ lines xs) (in-front x (lines xs)) ≡ l ∷ ls))) [
       | true ↦ (x ∷ [], (lines xs, refl))
@@ -44,7 +51,6 @@ some-line x xs =
     ]
 
 begun-in-front : (p : Bytes) (x y : ℕ) (ys : Bytes) → begun (p ++ x ∷ []) (lines (y ∷ ys)) ≡ begun p (in-front x (lines (y ∷ ys)))
-unfolding in-front
 begun-in-front p x y ys =
     let s = some-line y ys in
     ap (begun (p ++ x ∷ [])) (s .1 .1) ∙ ap (λ l. l ∷ s .1 .0) (append-assoc p (x ∷ []) (s .0)) ∙ sym (ap (λ ls. begun p (in-front x ls)) (s .1 .1))
@@ -69,7 +75,6 @@ closed p x xs start at e rest =
 
 -- the same wherever the line ends
 cut-at : (p t : Bytes) (start at : ℕ) → at ≡ start + length p → pieces start (line-ends at t) (p ++ t) ≡ begun p (lines t)
-unfolding lines in-front
 cut-at p [] start at e = refl
 cut-at p (x ∷ []) start at e =
     let cut = closed p x [] start at e refl in

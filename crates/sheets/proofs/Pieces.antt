@@ -46,7 +46,6 @@ length-pieces start [] bs = refl
 length-pieces start (end ∷ ends) bs = ap suc (length-pieces end ends (drop (end - start) bs))
 
 pub total-pieces : (start : ℕ) (ends bs : List ℕ) → Rises start ends (start + length bs) → total-bytes (pieces start ends bs) ≡ length bs
-unfolding total-bytes
 total-pieces start [] bs h = omega arith
 total-pieces start (end ∷ ends) bs h =
     let far = reach end ends (start + length bs) (h .1) in
@@ -172,7 +171,6 @@ rises-moved start (end ∷ ends) stop zero on h l =
 rises-moved start (end ∷ ends) stop (suc i) on h l = (h .0, rises-moved end ends stop i on (h .1) (omega arith))
 
 pub total-set : (bs : List Bytes) (i : ℕ) (new : Bytes) → i < length bs → total-bytes (set bs i new) + length (getD bs i []) ≡ total-bytes bs + length new
-unfolding total-bytes
 total-set [] i new h = absurd (omega arith)
 total-set (b ∷ bs) zero new h = omega arith
 total-set (b ∷ bs) (suc i) new h = omega (arith, total-set bs i new (omega arith))

@@ -13,33 +13,33 @@ use Rattle.answers.specs.Numbers.{block-number}
 use Rattle.answers.specs.Refusals.{unless}
 use Rattle.sheets.specs.Table.{Bytes, max-blocks, max-bytes}
 
-unfoldable pub total-bytes : List Bytes → ℕ
+abbrev pub total-bytes : List Bytes → ℕ
 total-bytes [] = 0
 total-bytes (b ∷ bs) = length b + total-bytes bs
 
 -- block j of a sheet, counted from 1; at 0, which every call refuses, the first
-unfoldable pub block-at : List Bytes → ℕ → Bytes
+abbrev pub block-at : List Bytes → ℕ → Bytes
 block-at bs j = getD bs (j - 1) []
 
 -- the blocks with b as block j; at 0, which every call refuses, as the first
-unfoldable pub with-block : List Bytes → ℕ → Bytes → List Bytes
+abbrev pub with-block : List Bytes → ℕ → Bytes → List Bytes
 with-block bs j b = set bs (j - 1) b
 
 -- j is no block of n
-unfoldable pub no-block : ℕ → ℕ → Bool
+abbrev pub no-block : ℕ → ℕ → Bool
 no-block n j = eqb j 0 || ltb n j
 
 -- a byte in front of the first line; where there is none, it is a line
-unfoldable pub in-front : ℕ → List Bytes → List Bytes
+abbrev pub in-front : ℕ → List Bytes → List Bytes
 in-front x [] = (x ∷ []) ∷ []
 in-front x (l ∷ ls) = (x ∷ l) ∷ ls
 
 -- each line with its byte 0A, and the last piece without one
-unfoldable pub lines : Bytes → List Bytes
+abbrev pub lines : Bytes → List Bytes
 lines [] = []
 lines (x ∷ xs) = cond (eqb x 10) ((x ∷ []) ∷ lines xs) (in-front x (lines xs))
 
-unfoldable pub cut-answer : List Bytes → Bytes → Result ℕ Refusal
+abbrev pub cut-answer : List Bytes → Bytes → Result ℕ Refusal
 cut-answer bs text =
     unless
     ((not (eqb (length bs) 0), SheetNotEmpty)
@@ -48,14 +48,14 @@ cut-answer bs text =
     ∷ ((ltb max-blocks (length (lines text)), TooManyLines) ∷ []))))
     (length (lines text))
 
-unfoldable pub add-answer : List Bytes → Bytes → Result BlockNumber Refusal
+abbrev pub add-answer : List Bytes → Bytes → Result BlockNumber Refusal
 add-answer bs b =
     unless
     ((ltb max-bytes (length b), TooLong)
     ∷ ((leb max-blocks (length bs) || ltb max-bytes (total-bytes bs + length b), SheetFull) ∷ []))
     (block-number (length bs + 1))
 
-unfoldable pub rewrite-answer : List Bytes → ℕ → Bytes → Result ℕ Refusal
+abbrev pub rewrite-answer : List Bytes → ℕ → Bytes → Result ℕ Refusal
 rewrite-answer bs j b =
     let total = total-bytes (with-block bs j b) in
     unless
@@ -64,7 +64,7 @@ rewrite-answer bs j b =
     ∷ ((ltb max-bytes total, SheetFull) ∷ [])))
     total
 
-unfoldable pub block-answer : List Bytes → ℕ → Result Bytes Refusal
+abbrev pub block-answer : List Bytes → ℕ → Result Bytes Refusal
 block-answer bs j = unless ((no-block (length bs) j, NoSuchBlock) ∷ []) (block-at bs j)
 
 -- the blocks after a call: the new ones where it succeeded, else those before it

@@ -1,20 +1,31 @@
-// The calls that change a sheet. A refused call leaves it as it was.
-ghost use mathlib.Core.Bool.{_||_};
+// The calls that change a sheet. Each first decides its answer, cause by cause, and changes the sheet only where that is good.
+ghost use mathlib.Core.Bool.{_||_, true};
 ghost use mathlib.Core.List.{[], _∷_, _++_};
 ghost use mathlib.Core.Path.{_≡_};
 ghost use Prim.Native.Nat.{ℕ, _+_, _-_, _≤_, _<_};
 ghost use lib.Dec.{eqb};
-ghost use lib.ListN.{length, getD, take, drop};
+ghost use lib.ListN.{length, getD, take, drop, set};
 ghost use Rattle.std.specs.Of.Vec.{vec-len, vec-items, vec-cap};
+ghost use Rattle.std.specs.Results.{Cases, isOk};
 ghost use Rattle.std.specs.Vec.{refused};
-ghost use Rattle.sheets.specs.Table.{max-bytes, line-ends, moved};
-ghost use Rattle.sheets.specs.Blocks.{blocks-of};
+ghost use Rattle.std.specs.declared.result.Result.the-variants.{Err};
+ghost use Rattle.sheets.specs.Blocks.{blocks-of, Room-for};
 ghost use Rattle.sheets.specs.Calls.{lines, with-block, cut-answer, add-answer, rewrite-answer, after};
+ghost use Rattle.sheets.specs.Table.{max-bytes, line-ends, moved};
 use super::Sheet;
 use crate::MAX_BLOCKS;
 use crate::MAX_BYTES;
 use answers::BlockNumber;
 use answers::Refusal;
+
+// Where a block stands in the bytes, and the sheet's total once it is rewritten.
+#[derive(Clone, Copy)]
+struct Place {
+    index: usize,
+    start: usize,
+    end: usize,
+    total: usize,
+}
 
 impl Sheet {
     // Fills an empty sheet from a text: each line with its byte 0A is a block, and so is a last piece without one. Answers the block count.
@@ -23,7 +34,37 @@ impl Sheet {
         ensures blocks { λ r. ⌜ blocks-of (now (self .exit)) ≡ after r (lines (now (text .entry))) (blocks-of (now (self .entry))) ⌝ }
         ensures kept { λ r. ⌜ refused r (λ _. now (self .exit) ≡ now (self .entry)) ⌝ }
     {
-        if self.ends.len() > 0 {
+        let count = self.cut_count(text)?;
+        self.fill(text);
+        Ok(count)
+    }
+
+    // Appends one block, and answers its number.
+    pub fn add(&mut self, bytes: &[u8]) -> Result<BlockNumber, Refusal>
+        ensures answer { λ r. ⌜ r ≡ add-answer (blocks-of (now (self .entry))) (now (bytes .entry)) ⌝ }
+        ensures blocks { λ r. ⌜ blocks-of (now (self .exit)) ≡ after r (blocks-of (now (self .entry)) ++ now (bytes .entry) ∷ []) (blocks-of (now (self .entry))) ⌝ }
+        ensures kept { λ r. ⌜ refused r (λ _. now (self .exit) ≡ now (self .entry)) ⌝ }
+    {
+        let number = self.next_number(bytes)?;
+        self.append(bytes);
+        Ok(number)
+    }
+
+    // Gives a block other bytes, and answers the sheet's new total.
+    pub fn rewrite(&mut self, number: BlockNumber, bytes: &[u8]) -> Result<usize, Refusal>
+        ensures answer { λ r. ⌜ r ≡ rewrite-answer (blocks-of (now (self .entry))) (number .0) (now (bytes .entry)) ⌝ }
+        ensures blocks { λ r. ⌜ blocks-of (now (self .exit)) ≡ after r (with-block (blocks-of (now (self .entry))) (number .0) (now (bytes .entry))) (blocks-of (now (self .entry))) ⌝ }
+        ensures kept { λ r. ⌜ refused r (λ _. now (self .exit) ≡ now (self .entry)) ⌝ }
+    {
+        let place = self.place(number, bytes)?;
+        self.put(place, bytes);
+        Ok(place.total)
+    }
+
+    fn cut_count(&self, text: &[u8]) -> Result<u16, Refusal>
+        ensures { λ r. ⌜ r ≡ cut-answer (blocks-of (now (self .entry))) (now (text .entry)) ⌝ }
+    {
+        if !self.is_empty() {
             return Err(Refusal::SheetNotEmpty);
         }
         if text.is_empty() {
@@ -36,53 +77,77 @@ impl Sheet {
         if count > MAX_BLOCKS {
             return Err(Refusal::TooManyLines);
         }
-        let _ = self.bytes.extend_from_slice(text);
-        push_line_ends(&mut self.ends, text);
         Ok(count as u16)
     }
 
-    // Appends one block, and answers its number.
-    pub fn add(&mut self, bytes: &[u8]) -> Result<BlockNumber, Refusal>
-        ensures answer { λ r. ⌜ r ≡ add-answer (blocks-of (now (self .entry))) (now (bytes .entry)) ⌝ }
-        ensures blocks { λ r. ⌜ blocks-of (now (self .exit)) ≡ after r (blocks-of (now (self .entry)) ++ now (bytes .entry) ∷ []) (blocks-of (now (self .entry))) ⌝ }
-        ensures kept { λ r. ⌜ refused r (λ _. now (self .exit) ≡ now (self .entry)) ⌝ }
+    fn next_number(&self, bytes: &[u8]) -> Result<BlockNumber, Refusal>
+        ensures { λ r. ⌜ r ≡ add-answer (blocks-of (now (self .entry))) (now (bytes .entry)) ⌝ }
     {
         if bytes.len() > MAX_BYTES {
             return Err(Refusal::TooLong);
         }
-        let count = self.ends.len();
-        let total = self.bytes.len() + bytes.len();
+        let count = self.ends().len();
+        let total = self.bytes().len() + bytes.len();
         if count >= MAX_BLOCKS || total > MAX_BYTES {
             return Err(Refusal::SheetFull);
         }
-        let _ = self.bytes.extend_from_slice(bytes);
-        self.ends.push_reserved(total as u16);
         Ok(BlockNumber(count as u16 + 1))
     }
 
-    // Gives a block other bytes, and answers the sheet's new total.
-    pub fn rewrite(&mut self, number: BlockNumber, bytes: &[u8]) -> Result<usize, Refusal>
-        ensures answer { λ r. ⌜ r ≡ rewrite-answer (blocks-of (now (self .entry))) (number .0) (now (bytes .entry)) ⌝ }
-        ensures blocks { λ r. ⌜ blocks-of (now (self .exit)) ≡ after r (with-block (blocks-of (now (self .entry))) (number .0) (now (bytes .entry))) (blocks-of (now (self .entry))) ⌝ }
-        ensures kept { λ r. ⌜ refused r (λ _. now (self .exit) ≡ now (self .entry)) ⌝ }
+    fn place(&self, number: BlockNumber, bytes: &[u8]) -> Result<Place, Refusal>
+        ensures { λ r. ⌜ Cases r
+            (λ p. Room-for (now (self .entry)) (number .0) (now (bytes .entry)) (p .index) (p .start) (p .end) (p .total))
+            (λ e. Err e ≡ rewrite-answer (blocks-of (now (self .entry))) (number .0) (now (bytes .entry))) ⌝ }
     {
-        let index = self.index_of(number)?;
+        let (start, end) = self.span(number)?;
         if bytes.len() > MAX_BYTES {
             return Err(Refusal::TooLong);
         }
-        let (start, end) = self.span(index);
-        let total = self.bytes.len() - (end - start) + bytes.len();
+        let total = self.bytes().len() - (end - start) + bytes.len();
         if total > MAX_BYTES {
             return Err(Refusal::SheetFull);
         }
-        replace(&mut self.bytes, start, end, bytes);
-        move_ends(&mut self.ends, index, end - start, bytes.len());
-        Ok(total)
+        let index = number.0 as usize - 1;
+        Ok(Place {
+            index,
+            start,
+            end,
+            total,
+        })
+    }
+
+    fn fill(&mut self, text: &[u8])
+        requires { ⌜ isOk (cut-answer (blocks-of (now self)) (now text)) ≡ true ⌝ }
+        ensures { λ _. ⌜ blocks-of (now (self .exit)) ≡ lines (now (text .entry)) ⌝ }
+    {
+        let _ = self.bytes.extend_from_slice(text);
+        push_line_ends(&mut self.ends, text);
+    }
+
+    fn append(&mut self, bytes: &[u8])
+        requires { ⌜ isOk (add-answer (blocks-of (now self)) (now bytes)) ≡ true ⌝ }
+        ensures { λ _. ⌜ blocks-of (now (self .exit)) ≡ blocks-of (now (self .entry)) ++ now (bytes .entry) ∷ [] ⌝ }
+    {
+        let _ = self.bytes.extend_from_slice(bytes);
+        self.ends.push_reserved(self.bytes.len() as u16);
+    }
+
+    fn put(&mut self, place: Place, bytes: &[u8])
+        requires { ⌜ ((j : ℕ) × Room-for (now self) j (now bytes) (place .index) (place .start) (place .end) (place .total)) ⌝ }
+        ensures { λ _. ⌜ blocks-of (now (self .exit)) ≡ set (blocks-of (now (self .entry))) (place .index) (now (bytes .entry)) ⌝ }
+    {
+        replace(&mut self.bytes, place.start, place.end, bytes);
+        move_ends(
+            &mut self.ends,
+            place.index,
+            place.end - place.start,
+            bytes.len(),
+        );
     }
 }
 
 fn count_lines(text: &[u8]) -> usize
-    ensures { λ r. ⌜ r ≡ length (line-ends 0 (now (text .entry))) ⌝ }
+    ensures { λ r. ⌜ r ≡ length (lines (now (text .entry))) ⌝ }
 {
     let mut count = 0;
     for i in 0..text.len() {
@@ -108,7 +173,7 @@ fn push_line_ends(ends: &mut Vec<u16>, text: &[u8])
 // Whether a line ends with the byte at an index: it is 0A, or the last.
 fn ends_line(text: &[u8], i: usize) -> bool
     requires { ⌜ i < length (now text) ⌝ }
-    ensures { λ r. ⌜ r ≡ (eqb (getD (now (text .entry)) i 0) 10 || eqb (length (drop (i + 1) (now (text .entry)))) 0) ⌝ }
+    ensures { λ r. ⌜ r ≡ (eqb (getD (now (text .entry)) i 0) 10 || eqb (i + 1) (length (now (text .entry)))) ⌝ }
 {
     text[i] == b'\n' || i + 1 == text.len()
 }

@@ -1,7 +1,7 @@
 use mathlib.Core.Path.{_≡_, sym, ap, _∙_}
 use native.Mathlib.Omega.{arith}
 use lib.ListN.{length}
-use Rattle.sheets.proofs.Lines.{line-ends-yes, line-ends-no, line-ends-all}
+use Rattle.sheets.proofs.Lines.{length-lines, line-ends-yes, line-ends-no, line-ends-all}
 use Rattle.sheets.proofs.sheet.edits.count_lines.Needs as need
 use Rattle.sheets.proofs.sheet.edits.count_lines.Needs.{then-ends-line, else-ends-line}
 
@@ -15,4 +15,6 @@ loop-i-again c =
     ]
 
 pub returns : need.returns
-returns c = omega (arith, c .loop-i .inv .1, ap length (line-ends-all (c .args .text .now) (c .loop-i .i) (c .loop-i-test .left)))
+returns c =
+    let text = c .args .text .now in
+    omega (arith, c .loop-i .inv .1, ap length (line-ends-all text (c .loop-i .i) (c .loop-i-test .left)), length-lines text)
