@@ -1,0 +1,31 @@
+// `nazkoiber replay` runs a script of calls from standard input, and prints what each answered.
+mod bench;
+mod call;
+
+use bench::Bench;
+use std::env;
+use std::io;
+use std::io::Read;
+use std::io::Write;
+
+fn main(rt: LibcRuntime) -> io::Result<()> {
+    let mut words = env::args(&rt)?;
+    let _ = words.next();
+    if let Some(word) = words.next() {
+        if word == "replay" && words.next().is_none() {
+            return replay(&rt);
+        }
+    }
+    eprintln!(rt, "usage: nazkoiber replay < SCRIPT")?;
+    Err(io::Error::from(io::ErrorKind::InvalidInput))
+}
+
+fn replay(rt: &LibcRuntime) -> io::Result<()> {
+    let heap = rt.alloc();
+    let mut script = Vec::new(heap);
+    let _ = rt.stdin().read_to_end(&mut script)?;
+    let mut out = Vec::new(heap);
+    let mut bench = Bench::new(heap)?;
+    bench.run_script(&script, &mut out)?;
+    rt.stdout().write_all(&out)
+}
