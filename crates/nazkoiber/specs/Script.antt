@@ -71,19 +71,23 @@ abbrev pub number-bytes-in : {A : Type 0} → (ℕ → Bytes → A) → Option B
 number-bytes-in f None = None
 number-bytes-in f (Some rest) = both f (number-of (first-word rest) 65535) (bytes-in (behind-word rest))
 
--- the call of a first word and what stands behind the space after it
-abbrev pub told-by : Option Verb → Option Bytes → Option Told
-told-by None rest = None
-told-by (Some verbs.Clear) rest = alone clear rest
-told-by (Some verbs.Cut) rest = mapped cut (bytes-in rest)
-told-by (Some verbs.Add) rest = mapped add (bytes-in rest)
-told-by (Some verbs.Rewrite) rest = number-bytes-in rewrite rest
-told-by (Some verbs.Show) rest = mapped show (number-in rest)
-told-by (Some verbs.Sheet) rest = alone sheet rest
+-- the call of a first word, with what stands behind the space after it
+abbrev pub told-by : Verb → Option Bytes → Option Told
+told-by verbs.Clear rest = alone clear rest
+told-by verbs.Cut rest = mapped cut (bytes-in rest)
+told-by verbs.Add rest = mapped add (bytes-in rest)
+told-by verbs.Rewrite rest = number-bytes-in rewrite rest
+told-by verbs.Show rest = mapped show (number-in rest)
+told-by verbs.Sheet rest = alone sheet rest
+
+-- a first word that is in no table says nothing
+abbrev pub told-if : Option Verb → Option Bytes → Option Told
+told-if None rest = None
+told-if (Some verb) rest = told-by verb rest
 
 -- the call that a line says, if it says one
 unfoldable pub line-told : Bytes → Option Told
-line-told line = told-by (verb-of (first-word line)) (behind-word line)
+line-told line = told-if (verb-of (first-word line)) (behind-word line)
 
 -- An answer is what was said, and is refused where nothing was; but memory may be short.
 abbrev pub Reads : {A B : Type 0} → (A → B) → Option B → Result A ParseError → Type 0

@@ -3,7 +3,7 @@ ghost use mathlib.Core.Path.{_≡_};
 ghost use Rattle.std.specs.Of.Vec.{vec-items};
 ghost use Rattle.std.specs.Options.{mapped};
 ghost use Rattle.std.specs.shelf.Text.{sameBytes};
-ghost use Rattle.nazkoiber.specs.Script.{rewrite, told, verb-of, alone, bytes-in, number-in, number-bytes-in, line-told, Reads};
+ghost use Rattle.nazkoiber.specs.Script.{rewrite, told, verb-of, alone, bytes-in, number-in, number-bytes-in, told-by, line-told, Reads};
 use answers::BlockNumber;
 use scripts::decode_hex;
 use scripts::parse_number;
@@ -47,16 +47,9 @@ impl Call {
         ensures { λ r. ⌜ Reads told (line-told (now (line .entry))) r ⌝ }
     {
         let (word, rest) = split_word(line);
-        let Some(verb) = Verb::named(word) else {
-            return Err(ParseError::NotUnderstood);
-        };
-        match verb {
-            Verb::Clear => only(Call::Clear, rest),
-            Verb::Cut => Ok(Call::Cut(read_bytes(heap, rest)?)),
-            Verb::Add => Ok(Call::Add(read_bytes(heap, rest)?)),
-            Verb::Rewrite => parse_rewrite(heap, rest),
-            Verb::Show => Ok(Call::Show(read_number(rest)?)),
-            Verb::Sheet => only(Call::Sheet, rest),
+        match Verb::named(word) {
+            Some(verb) => verb.parse_rest(heap, rest),
+            None => Err(ParseError::NotUnderstood),
         }
     }
 }
@@ -79,6 +72,20 @@ impl Verb {
             Some(Verb::Sheet)
         } else {
             None
+        }
+    }
+
+    // Takes apart what stands behind the space after the first word.
+    fn parse_rest(self, heap: Global, rest: Option<&[u8]>) -> Result<Call, ParseError>
+        ensures { λ r. ⌜ Reads told (told-by self (mapped now (rest .entry))) r ⌝ }
+    {
+        match self {
+            Verb::Clear => only(Call::Clear, rest),
+            Verb::Cut => Ok(Call::Cut(read_bytes(heap, rest)?)),
+            Verb::Add => Ok(Call::Add(read_bytes(heap, rest)?)),
+            Verb::Rewrite => parse_rewrite(heap, rest),
+            Verb::Show => Ok(Call::Show(read_number(rest)?)),
+            Verb::Sheet => only(Call::Sheet, rest),
         }
     }
 }

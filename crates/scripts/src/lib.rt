@@ -1,7 +1,7 @@
 // The words of script lines: they are set apart by single spaces, and are numbers in decimal and bytes in lower-case hex.
 ghost use mathlib.Core.List.{[], _∷_, _++_};
 ghost use mathlib.Core.Path.{_≡_};
-ghost use Prim.Native.Nat.{_+_, _/_, _%_, _<_};
+ghost use Prim.Native.Nat.{_+_, _/_, _%_, _<_, _≤_};
 ghost use lib.ListN.{length, take, drop};
 ghost use Rattle.std.specs.Of.String.{string-bytes};
 ghost use Rattle.std.specs.Of.Vec.{vec-items};
@@ -41,7 +41,8 @@ fn first_space(line: &[u8]) -> Option<usize>
 
 // The number of a word of digits, of which there is at least one, if it is at most so much.
 pub fn parse_number(word: &[u8], most: u32) -> Option<u32>
-    ensures { λ r. ⌜ r ≡ number-of (now (word .entry)) most ⌝ }
+    ensures value { λ r. ⌜ r ≡ number-of (now (word .entry)) most ⌝ }
+    ensures bound { λ r. ⌜ found r (λ n. n ≤ most) ⌝ }
 {
     if word.is_empty() {
         return None;

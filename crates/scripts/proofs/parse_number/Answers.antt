@@ -9,7 +9,7 @@ use Rattle.scripts.proofs.Words.{number-none, number-some, past-most, digits-m
 use Rattle.scripts.proofs.parse_number.Needs as need
 
 pub returns-then-is-empty : need.returns-then-is-empty
-returns-then-is-empty c = number-none (c .args .word .now) (c .args .most) (eqb-true _ _ (sym (c .if-is-empty .ensures tt)))
+returns-then-is-empty c = record { value = number-none (c .args .word .now) (c .args .most) (eqb-true _ _ (sym (c .if-is-empty .ensures tt))); bound = tt }
 
 pub loop-i-holds : need.loop-i-holds
 loop-i-holds c =
@@ -18,9 +18,8 @@ loop-i-holds c =
 
 pub returns-in-Break-digit : need.returns-in-Break-digit
 returns-in-Break-digit c =
-    c .from-residual .ensures
-    ∙ digits-stop (c .args .word .now) (c .args .most) (c .loop-i .number) (c .loop-i .i) (c .loop-i-test .taken) (c .in-Break-digit .ensures tt .value)
-    ∙ c .loop-i .inv .1
+    let none = digits-stop (c .args .word .now) (c .args .most) (c .loop-i .number) (c .loop-i .i) (c .loop-i-test .taken) (c .in-Break-digit .ensures tt .value) in
+    record { value = c .from-residual .ensures ∙ none ∙ c .loop-i .inv .1; bound = rw (c .from-residual .ensures) tt }
 
 pub returns-then-number-from : need.returns-then-number-from
 returns-then-number-from c =
@@ -30,7 +29,8 @@ returns-then-number-from c =
     let i = c .loop-i .i in
     let digit = c .in-Continue-digit .digit in
     let next = digits-more word most old i digit (c .loop-i-test .taken) (c .in-Continue-digit .ensures tt .value) in
-    past-most most (old * 10 + digit) (drop (i + 1) word) (omega arith) ∙ ap (at-most most) (sym next) ∙ c .loop-i .inv .1
+    let past = past-most most (old * 10 + digit) (drop (i + 1) word) (omega arith) in
+    record { value = past ∙ ap (at-most most) (sym next) ∙ c .loop-i .inv .1; bound = tt }
 
 pub loop-i-again : need.loop-i-again
 loop-i-again c =
@@ -44,4 +44,6 @@ loop-i-again c =
     (omega arith, added ∙ ap (at-most most) (sym next) ∙ c .loop-i .inv .1)
 
 pub returns : need.returns
-returns c = digits-all (c .args .word .now) (c .args .most) (c .loop-i .number) (c .loop-i .i) (c .loop-i-test .left) (c .loop-i .inv .0) ∙ c .loop-i .inv .1
+returns c =
+    let all = digits-all (c .args .word .now) (c .args .most) (c .loop-i .number) (c .loop-i .i) (c .loop-i-test .left) (c .loop-i .inv .0) in
+    record { value = all ∙ c .loop-i .inv .1; bound = c .loop-i .inv .0 }

@@ -1,0 +1,1 @@
+use Rattle.nazkoiber.proofs.call.Call.parse.Needs as need
