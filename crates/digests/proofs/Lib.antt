@@ -1,0 +1,3 @@
+mod Pads
+mod Same
+mod Taken
