@@ -1,3 +1,4 @@
 mod Pads
 mod Same
 mod Taken
+mod Held

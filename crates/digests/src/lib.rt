@@ -11,6 +11,7 @@ mod buffered;
 mod compare;
 mod mac;
 
+pub use buffered::Buffered;
 pub use buffered::Compressor;
 pub use compare::same_bytes;
 pub use mac::hmac;

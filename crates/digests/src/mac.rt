@@ -6,6 +6,7 @@ ghost use Rattle.digests.specs.Hmac.{under, padded, hmac-of};
 use crate::Digest;
 
 const INNER: u8 = 0x36;
+
 const OUTER: u8 = 0x5c;
 
 pub fn hmac<D: Digest>(key: &[u8; 32], text: &[u8]) -> [u8; 32]

@@ -76,3 +76,17 @@ line-text line bs = cond (silent line) [] (printed (first-word line) (told-text 
 
 unfoldable pub line-after : Bytes → List Bytes → List Bytes
 line-after line bs = cond (silent line) bs (told-after (line-told line) bs)
+
+-- the lines of a script, of which the first has begun already; each but the last ends before a byte 0A
+unfoldable pub lines-behind : Bytes → Bytes → List Bytes
+lines-behind begun [] = begun ∷ []
+lines-behind begun (x ∷ xs) = cond (eqb x 10) (begun ∷ lines-behind [] xs) (lines-behind (begun ++ x ∷ []) xs)
+
+-- what lines print one after another
+unfoldable pub lines-text : List Bytes → List Bytes → Bytes
+lines-text [] bs = []
+lines-text (line ∷ rest) bs = line-text line bs ++ lines-text rest (line-after line bs)
+
+-- what a script prints that begins with these blocks
+unfoldable pub script-text : Bytes → List Bytes → Bytes
+script-text script bs = lines-text (lines-behind [] script) bs

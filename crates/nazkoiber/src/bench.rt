@@ -6,7 +6,7 @@ ghost use Rattle.std.specs.Of.Vec.{vec-items};
 ghost use Rattle.std.specs.Vec.{made};
 ghost use Rattle.nazkoiber.specs.declared.bench.Stop.the-variants.{Refused, OutOfMemory};
 ghost use Rattle.nazkoiber.specs.Script.{told, clear, cut, add, rewrite, show, sheet, line-told};
-ghost use Rattle.nazkoiber.specs.Answering.{answer-text, blocks-after, blocks, Answered, told-text, told-after, printed, line-text, line-after};
+ghost use Rattle.nazkoiber.specs.Answering.{answer-text, blocks-after, blocks, Answered, told-text, told-after, printed, line-text, line-after, script-text};
 use crate::call::Call;
 use crate::call::ParseError;
 use answers::BlockNumber;
@@ -20,8 +20,9 @@ use std::alloc::Global;
 use std::fmt;
 use std::fmt::Write;
 
+// The state that calls work on.
 #[derive(Drop)]
-pub struct Bench {
+struct Bench {
     heap: Global,
     sheet: Sheet,
 }
@@ -58,8 +59,18 @@ impl From<fmt::Error> for Stop as StopFromFmtError {
     }
 }
 
+// What a script prints. It begins with an empty sheet.
+pub fn replay(heap: Global, script: &[u8]) -> Result<Vec<u8>, AllocError>
+    ensures { λ r. ⌜ made r (λ out. vec-items out ≡ script-text (now (script .entry)) []) ⌝ }
+{
+    let mut bench = Bench::new(heap)?;
+    let mut out = Vec::new(heap);
+    bench.run_script(script, &mut out)?;
+    Ok(out)
+}
+
 impl Bench {
-    pub fn new(heap: Global) -> Result<Bench, AllocError>
+    fn new(heap: Global) -> Result<Bench, AllocError>
         ensures { λ r. ⌜ made r (λ b. blocks b ≡ []) ⌝ }
     {
         let sheet = Sheet::new(heap)?;
@@ -67,7 +78,9 @@ impl Bench {
     }
 
     // Runs a script, and appends a line for each call.
-    pub fn run_script(&mut self, script: &[u8], out: &mut Vec<u8>) -> Result<(), AllocError> {
+    fn run_script(&mut self, script: &[u8], out: &mut Vec<u8>) -> Result<(), AllocError>
+        ensures { λ r. ⌜ made r (λ _. vec-items (now (out .exit)) ≡ vec-items (now (out .entry)) ++ script-text (now (script .entry)) (blocks (now (self .entry)))) ⌝ }
+    {
         let mut start = 0;
         for end in 0..script.len() {
             if script[end] == b'\n' {
@@ -80,7 +93,7 @@ impl Bench {
 
     // Runs one line, and appends its first word with what it answers. Empty lines and comments print nothing.
     fn run_line(&mut self, line: &[u8], out: &mut Vec<u8>) -> Result<(), AllocError>
-        ensures blocks { λ r. ⌜ made r (λ _. blocks (now (self .exit)) ≡ line-after (now (line .entry)) (blocks (now (self .entry)))) ⌝ }
+        ensures after { λ r. ⌜ made r (λ _. blocks (now (self .exit)) ≡ line-after (now (line .entry)) (blocks (now (self .entry)))) ⌝ }
         ensures text { λ r. ⌜ made r (λ _. vec-items (now (out .exit)) ≡ vec-items (now (out .entry)) ++ line-text (now (line .entry)) (blocks (now (self .entry)))) ⌝ }
     {
         if line.is_empty() || line[0] == b'#' {
@@ -93,7 +106,7 @@ impl Bench {
 
     // Runs the call that a line says, if it says one.
     fn answer_line(&mut self, line: &[u8]) -> Result<String, AllocError>
-        ensures blocks { λ r. ⌜ made r (λ _. blocks (now (self .exit)) ≡ told-after (line-told (now (line .entry))) (blocks (now (self .entry)))) ⌝ }
+        ensures after { λ r. ⌜ made r (λ _. blocks (now (self .exit)) ≡ told-after (line-told (now (line .entry))) (blocks (now (self .entry)))) ⌝ }
         ensures text { λ r. ⌜ made r (λ s. string-bytes s ≡ told-text (line-told (now (line .entry))) (blocks (now (self .entry)))) ⌝ }
     {
         match Call::parse(self.heap, line) {
@@ -108,8 +121,8 @@ impl Bench {
     }
 
     // Runs one call, and appends its answer or its refusal.
-    pub fn run(&mut self, call: &Call, answer: &mut String) -> Result<(), AllocError>
-        ensures blocks { λ r. ⌜ made r (λ _. blocks (now (self .exit)) ≡ blocks-after (told (now (call .entry))) (blocks (now (self .entry)))) ⌝ }
+    fn run(&mut self, call: &Call, answer: &mut String) -> Result<(), AllocError>
+        ensures after { λ r. ⌜ made r (λ _. blocks (now (self .exit)) ≡ blocks-after (told (now (call .entry))) (blocks (now (self .entry)))) ⌝ }
         ensures text { λ r. ⌜ made r (λ _. string-bytes (now (answer .exit)) ≡ string-bytes (now (answer .entry)) ++ answer-text (told (now (call .entry))) (blocks (now (self .entry)))) ⌝ }
     {
         match self.answer(call, answer) {
@@ -159,7 +172,12 @@ impl Bench {
         Ok(())
     }
 
-    fn rewrite(&mut self, number: BlockNumber, bytes: &[u8], answer: &mut String) -> Result<(), Stop>
+    fn rewrite(
+        &mut self,
+        number: BlockNumber,
+        bytes: &[u8],
+        answer: &mut String,
+    ) -> Result<(), Stop>
         ensures { λ r. ⌜ Answered (rewrite (number .0) (now (bytes .entry))) (blocks (now (self .entry))) (blocks (now (self .exit))) (string-bytes (now (answer .entry))) (string-bytes (now (answer .exit))) r ⌝ }
     {
         let total = self.sheet.rewrite(number, bytes)?;

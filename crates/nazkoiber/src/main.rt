@@ -2,7 +2,7 @@
 mod bench;
 mod call;
 
-use bench::Bench;
+use bench::replay;
 use std::env;
 use std::io;
 use std::io::Read;
@@ -13,19 +13,17 @@ fn main(rt: LibcRuntime) -> io::Result<()> {
     let _ = words.next();
     if let Some(word) = words.next() {
         if word == "replay" && words.next().is_none() {
-            return replay(&rt);
+            return run(&rt);
         }
     }
     eprintln!(rt, "usage: nazkoiber replay < SCRIPT")?;
     Err(io::Error::from(io::ErrorKind::InvalidInput))
 }
 
-fn replay(rt: &LibcRuntime) -> io::Result<()> {
+fn run(rt: &LibcRuntime) -> io::Result<()> {
     let heap = rt.alloc();
     let mut script = Vec::new(heap);
     let _ = rt.stdin().read_to_end(&mut script)?;
-    let mut out = Vec::new(heap);
-    let mut bench = Bench::new(heap)?;
-    bench.run_script(&script, &mut out)?;
+    let out = replay(heap, &script)?;
     rt.stdout().write_all(&out)
 }

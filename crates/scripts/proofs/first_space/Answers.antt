@@ -1,4 +1,4 @@
-use mathlib.Core.Path.{_≡_, _∙_}
+use mathlib.Core.Path.{_∙_}
 use Rattle.scripts.proofs.Words.{word-here, behind-here, word-more, behind-more, word-all, behind-all}
 use Rattle.scripts.proofs.first_space.Needs as need
 

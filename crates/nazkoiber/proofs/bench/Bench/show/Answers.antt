@@ -4,7 +4,6 @@ use lib.Chars.{codes}
 use Rattle.std.specs.Of.String.{string-bytes}
 use Rattle.std.specs.declared.result.Result.the-variants.{Ok}
 use Rattle.scripts.specs.Hex.{hex-text}
-use Rattle.sheets.specs.Table.{Bytes}
 use Rattle.sheets.specs.Calls.{block-answer}
 use Rattle.nazkoiber.specs.Answering.{text-of, blocks}
 use Rattle.nazkoiber.proofs.bench.Bench.show.Needs as need
