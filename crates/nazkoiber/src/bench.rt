@@ -149,7 +149,7 @@ impl Bench {
     }
 
     fn clear(&mut self, answer: &mut String) -> Result<(), Stop>
-        ensures { λ r. ⌜ Answered (clear) (blocks (now (self .entry))) (blocks (now (self .exit))) (string-bytes (now (answer .entry))) (string-bytes (now (answer .exit))) r ⌝ }
+        ensures { λ r. ⌜ Answered clear (blocks (now (self .entry))) (blocks (now (self .exit))) (string-bytes (now (answer .entry))) (string-bytes (now (answer .exit))) r ⌝ }
     {
         self.sheet = Sheet::new(self.heap)?;
         answer.push_str("ok")?;
@@ -195,7 +195,7 @@ impl Bench {
     }
 
     fn show_sheet(&mut self, answer: &mut String) -> Result<(), Stop>
-        ensures { λ r. ⌜ Answered (sheet) (blocks (now (self .entry))) (blocks (now (self .exit))) (string-bytes (now (answer .entry))) (string-bytes (now (answer .exit))) r ⌝ }
+        ensures { λ r. ⌜ Answered sheet (blocks (now (self .entry))) (blocks (now (self .exit))) (string-bytes (now (answer .entry))) (string-bytes (now (answer .exit))) r ⌝ }
     {
         let count = self.sheet.block_count();
         let total = self.sheet.total();
