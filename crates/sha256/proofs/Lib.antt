@@ -1,0 +1,6 @@
+mod Summed
+mod Following
+mod Extended
+mod Blocks
+mod Hashed
+mod Padded
