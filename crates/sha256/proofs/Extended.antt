@@ -63,7 +63,6 @@ along a b c x = append-assoc a (b ++ c) x ∙ ap (λ t. a ++ t) (append-assoc b 
 long : (a b c d : List ℕ) (n : ℕ) → length a + (length b + (length c + length d)) ≡ n → length (a ++ (b ++ (c ++ d))) ≡ n
 long a b c d n e = omega (arith, length-append a (b ++ (c ++ d)), length-append b (c ++ d), length-append c d)
 
-
 module _ (a b c d x0 x1 x2 x3 : List ℕ) (la : length a ≡ 4) (lb : length b ≡ 4) (lc : length c ≡ 4) (ld : length d ≡ 4) (l0 : length x0 ≡ 4) (l1 : length x1 ≡ 4) (l2 : length x2 ≡ 4) where
   pub by-fours : x0 ≡ four-more (a ++ (b ++ (c ++ d))) → x1 ≡ four-more (b ++ (c ++ (d ++ x0))) → x2 ≡ four-more (c ++ (d ++ (x0 ++ x1))) → x3 ≡ four-more (d ++ (x0 ++ (x1 ++ x2)))
       → x0 ++ (x1 ++ (x2 ++ x3)) ≡ sixteen-more (a ++ (b ++ (c ++ d)))

@@ -4,3 +4,4 @@ mod Extended
 mod Blocks
 mod Hashed
 mod Padded
+mod Choice

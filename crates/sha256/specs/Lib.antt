@@ -1,3 +1,4 @@
 pub mod Sha256
 pub mod Parts
 pub mod Absorbed
+pub mod Constants

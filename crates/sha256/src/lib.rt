@@ -1,6 +1,7 @@
 // SHA-256 of FIPS 180-4, as a digest.
 ghost use Rattle.digests.specs.Took.{Took};
 ghost use Rattle.sha256.specs.Absorbed.{Absorbed};
+ghost use Rattle.sha256.specs.Constants.{Constants-rule};
 ghost use Rattle.sha256.specs.Sha256.{sha256-of};
 ghost use lib.ListN.{take};
 use chain::Chain;
@@ -49,4 +50,11 @@ pub impl Digest for Sha256 as Sha256Digest {
         let Sha256(buffered) = self;
         buffered.end()
     }
+}
+
+// The constants are what the standard says they are.
+pub fn constants_stand() -> u8
+    ensures { λ _. ⌜ Constants-rule ⌝ }
+{
+    0
 }

@@ -15,4 +15,4 @@ returns c =
     let l1 : length (c .next-four-x1 .result) ≡ 4 = search needs in
     let l2 : length (c .next-four-x2 .result) ≡ 4 = search needs in
     by-fours (w .0) (w .1) (w .2) (w .3) (c .next-four-x0 .result) (c .next-four-x1 .result) (c .next-four-x2 .result) (c .next-four-x3 .result) la lb lc ld l0 l1 l2
-        (c .next-four-x0 .ensures) (c .next-four-x1 .ensures) (c .next-four-x2 .ensures) (c .next-four-x3 .ensures)
+    (c .next-four-x0 .ensures) (c .next-four-x1 .ensures) (c .next-four-x2 .ensures) (c .next-four-x3 .ensures)

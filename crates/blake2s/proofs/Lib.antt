@@ -1,0 +1,3 @@
+mod Begun
+mod Chains
+mod Rows
