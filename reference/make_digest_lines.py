@@ -24,21 +24,21 @@ LONG_448 = b"abcdbcdecdefdefgefghfghighijhijkijkljklmklmnlmnomnopnopq"
 LONG_896 = (b"abcdefghbcdefghicdefghijdefghijkefghijklfghijklmghijklmn"
             b"hijklmnoijklmnopjklmnopqklmnopqrlmnopqrsmnopqrstnopqrstu")
 
-# (where it is published, line, answer)
+# (what it is, line, published answer)
 PUBLISHED = [
-    ("FIPS 180-4, examples of SHA-256: one block", "sha256 " + b"abc".hex(),
+    ("SHA-256 of FIPS 180-4, published example: one block", "sha256 " + b"abc".hex(),
      "ba7816bf8f01cfea414140de5dae2223b00361a396177a9cb410ff61f20015ad"),
-    ("FIPS 180-4, examples of SHA-256: two blocks, 448 bits",
+    ("SHA-256 of FIPS 180-4, published example: two blocks, 448 bits",
      "sha256 " + LONG_448.hex(),
      "248d6a61d20638b8e5c026930c3e6039a33ce45964ff2167f6ecedd419db06c1"),
-    ("FIPS 180-4, examples of SHA-256: 896 bits", "sha256 " + LONG_896.hex(),
+    ("SHA-256 of FIPS 180-4, published example: 896 bits", "sha256 " + LONG_896.hex(),
      "cf5b16a778af8380036ce59e7b0492370b249b11e8f07a51afac45037afee9d1"),
-    ("FIPS 180-4, examples of SHA-256: no bytes", "sha256 -",
+    ("SHA-256 of FIPS 180-4, published example: no bytes", "sha256 -",
      "e3b0c44298fc1c149afbf4c8996fb92427ae41e4649b934ca495991b7852b855"),
-    ("FIPS 180-4, examples of SHA-256: a million times a",
+    ("SHA-256 of FIPS 180-4, published example: a million times a",
      "repeat-sha256 1000000 61",
      "cdc76e5c9914fb9281a1c7e284d73e67f1809a48a497200e046d39ccc7112cd0"),
-    ("RFC 7693, appendix B", "blake2s " + b"abc".hex(),
+    ("BLAKE2s of RFC 7693, the example of its appendix", "blake2s " + b"abc".hex(),
      "508c5e8c327c14e2e1a72ba34eeb452f37458b209ed63a294d999b4c86675982"),
 ]
 

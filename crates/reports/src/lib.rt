@@ -47,10 +47,10 @@ fn push_block_lines(report: &mut String, sheet: &Sheet) -> Result<(), AllocError
     Ok(())
 }
 
-fn push_line(report: &mut String, number: u16, length: usize) -> Result<(), AllocError>
-    ensures { λ r. ⌜ made r (λ _. string-bytes (now (report .exit)) ≡ string-bytes (now (report .entry)) ++ (decimal number ++ (codes " " ++ (decimal length ++ newline)))) ⌝ }
+fn push_line(report: &mut String, number: u16, size: usize) -> Result<(), AllocError>
+    ensures { λ r. ⌜ made r (λ _. string-bytes (now (report .exit)) ≡ string-bytes (now (report .entry)) ++ (decimal number ++ (codes " " ++ (decimal size ++ newline)))) ⌝ }
 {
-    match writeln!(report, "{number} {length}") {
+    match writeln!(report, "{number} {size}") {
         Ok(()) => Ok(()),
         Err(_) => Err(AllocError),
     }

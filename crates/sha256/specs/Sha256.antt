@@ -58,10 +58,11 @@ K = K0 ++ (K1 ++ (K2 ++ K3))
 abbrev pub initial : State
 initial = record { a = 0x6a09e667; b = 0xbb67ae85; c = 0x3c6ef372; d = 0xa54ff53a; e = 0x510e527f; f = 0x9b05688c; g = 0x1f83d9ab; h = 0x5be0cd19 }
 
--- 5.1.1, padding: a one bit, zeros to 8 bytes before the end of a block, and the length in bits modulo 2^64
+-- 5.1.1, padding of a message of n bytes: a one bit, zeros to 8 bytes before the end of a block, and the length in bits. The standard stops at 2^64 bits; from there on the length counts modulo 2^64.
 abbrev pub u64-bytes : ℕ → Bytes
 u64-bytes n = n / 2 ^ 56 % 256 ∷ n / 2 ^ 48 % 256 ∷ n / 2 ^ 40 % 256 ∷ n / 2 ^ 32 % 256 ∷ n / 2 ^ 24 % 256 ∷ n / 2 ^ 16 % 256 ∷ n / 2 ^ 8 % 256 ∷ n % 256 ∷ []
 
+-- of the 64 bytes of a block, 1 + 8 are taken, so that 55 - n zeros are left, modulo 64; 119 is 55 + 64
 unfoldable pub padding : ℕ → Bytes
 padding n = 0x80 ∷ (replicate ((119 - n % 64) % 64) 0 ++ u64-bytes (8 * n % 2 ^ 64))
 

@@ -7,10 +7,11 @@ use native.Mathlib.Nat.{add-zero, zero-add}
 use native.Mathlib.Omega.{arith}
 use lib.Dec.{eqb}
 use lib.ListN.{length, getD, take, drop, length-drop}
+use Rattle.std.specs.Joined.{joined}
 use Rattle.std.proofs.shelf.Ways.{tells}
 use Rattle.std.proofs.shelf.Lists.{at-drop-more, at-drop-all, take-at, drop-at, length-push}
 use Rattle.sheets.specs.Table.{Bytes, pieces, line-ends}
-use Rattle.sheets.specs.Calls.{in-front, lines}
+use Rattle.sheets.specs.Calls.{in-front, lines, ended-line, open-line, all-lines, Lines-of}
 use Rattle.sheets.proofs.Pieces.{Rises, length-pieces}
 
 -- whether the text's line ends with the byte at an index
@@ -107,3 +108,40 @@ line-ends-rise start at (x ∷ (y ∷ ys)) l e =
     let here : goal true true = (omega arith, rw stop at (line-ends-rise (at + 1) (at + 1) (y ∷ ys) (omega arith) (λ h. refl))) in
     let on : goal false false = rw stop at (line-ends-rise start (at + 1) (y ∷ ys) (omega arith) (λ h. absurd (omega arith))) in
     elim (eqb x 10) as (λ v. goal v (eqb (length xs) 0)) [ true ↦ here | false ↦ subst (goal false) (sym (not-last y ys)) on ]
+
+-- the lines joined are the text, and each is a line
+joined-in-front : (x : ℕ) (ls : List Bytes) → joined (λ (l : Bytes). l) (in-front x ls) ≡ x ∷ joined (λ (l : Bytes). l) ls
+joined-in-front x [] = refl
+joined-in-front x (l ∷ ls) = refl
+
+lines-join : (text : Bytes) → joined (λ (l : Bytes). l) (lines text) ≡ text
+lines-join [] = refl
+lines-join (x ∷ xs) =
+    elim (eqb x 10) as (λ v. joined (λ (l : Bytes). l) (cond v ((x ∷ []) ∷ lines xs) (in-front x (lines xs))) ≡ x ∷ xs) [
+      | true ↦ ap (λ t. x ∷ t) (lines-join xs)
+      | false ↦ joined-in-front x (lines xs) ∙ ap (λ t. x ∷ t) (lines-join xs)
+    ]
+
+never : false ≡ true → ⊥
+never e = let z : _≡_ {A = ℕ} 0 1 = cc in omega arith
+
+fronted : (x : ℕ) (ls : List Bytes) → eqb x 10 ≡ false → all-lines ls ≡ true → all-lines (in-front x ls) ≡ true
+fronted x [] e h = simp e
+fronted x ([] ∷ []) e h = absurd (never h)
+fronted x ((y ∷ ys) ∷ []) e h = simp e h
+fronted x ([] ∷ (m ∷ ms)) e h = absurd (never h)
+fronted x ((y ∷ ys) ∷ (m ∷ ms)) e h = simp e h
+
+ended-front : (x : ℕ) (ls : List Bytes) → eqb x 10 ≡ true → all-lines ls ≡ true → all-lines ((x ∷ []) ∷ ls) ≡ true
+ended-front x [] e h = simp e
+ended-front x (m ∷ ms) e h = simp e h
+
+lines-each : (text : Bytes) → all-lines (lines text) ≡ true
+lines-each [] = refl
+lines-each (x ∷ xs) =
+    let goal : Bool → Type 0 = λ v. eqb x 10 ≡ v → all-lines (cond v ((x ∷ []) ∷ lines xs) (in-front x (lines xs))) ≡ true in
+    let both : (v : Bool) → goal v = λ v. elim v as goal [ true ↦ λ e. ended-front x (lines xs) e (lines-each xs) | false ↦ λ e. fronted x (lines xs) e (lines-each xs) ] in
+    both (eqb x 10) refl
+
+pub lines-law : (text : Bytes) → Lines-of text (lines text)
+lines-law text = record { joins = lines-join text; each = lines-each text }

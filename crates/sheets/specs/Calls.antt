@@ -1,9 +1,11 @@
 -- What each call on a sheet answers and leaves, over the list of blocks alone. Assumes nothing.
 use mathlib.Core.List.{List, [], _∷_, _++_}
-use mathlib.Core.Bool.{Bool, cond, _||_, not}
+use mathlib.Core.Path.{_≡_}
+use mathlib.Core.Bool.{Bool, true, false, cond, _&&_, _||_, not}
 use Prim.Native.Nat.{ℕ, _+_, _-_}
 use lib.Dec.{eqb, ltb, leb}
 use lib.ListN.{length, getD, set}
+use Rattle.std.specs.Joined.{joined}
 use Rattle.std.specs.declared.result.Result.{Result}
 use Rattle.std.specs.declared.result.Result.the-variants.{Ok, Err}
 use Rattle.answers.specs.declared.BlockNumber.{BlockNumber}
@@ -71,3 +73,26 @@ block-answer bs j = unless ((no-block (length bs) j, NoSuchBlock) ∷ []) (block
 abbrev pub after : {A : Type 0} → Result A Refusal → List Bytes → List Bytes → List Bytes
 after (Ok a) new old = new
 after (Err e) new old = old
+
+-- a line with its 0A, which stands nowhere else in it
+abbrev pub ended-line : Bytes → Bool
+ended-line [] = false
+ended-line (x ∷ []) = eqb x 10
+ended-line (x ∷ (y ∷ ys)) = not (eqb x 10) && ended-line (y ∷ ys)
+
+-- a piece with no 0A
+abbrev pub open-line : Bytes → Bool
+open-line [] = false
+open-line (x ∷ []) = not (eqb x 10)
+open-line (x ∷ (y ∷ ys)) = not (eqb x 10) && open-line (y ∷ ys)
+
+-- every line has its 0A but the last, which may lack it
+abbrev pub all-lines : List Bytes → Bool
+all-lines [] = true
+all-lines (l ∷ []) = ended-line l || open-line l
+all-lines (l ∷ (m ∷ ms)) = ended-line l && all-lines (m ∷ ms)
+
+-- What cut makes of a text in other words: joined the lines are the text, each is a line, and none is empty. Only one list is so.
+pub record Lines-of (text : Bytes) (ls : List Bytes) : Type 0 where
+  pub joins : joined (λ (l : Bytes). l) ls ≡ text
+  pub each : all-lines ls ≡ true

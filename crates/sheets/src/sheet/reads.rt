@@ -30,14 +30,16 @@ impl Sheet {
     }
 
     pub fn block_count(&self) -> u16
-        ensures { λ r. ⌜ r ≡ length (blocks-of (now (self .entry))) ⌝ }
+        ensures value { λ r. ⌜ r ≡ length (blocks-of (now (self .entry))) ⌝ }
+        ensures bound { λ r. ⌜ r ≤ max-blocks ⌝ }
     {
         self.ends().len() as u16
     }
 
     // The bytes of all blocks together.
     pub fn total(&self) -> usize
-        ensures { λ r. ⌜ r ≡ total-bytes (blocks-of (now (self .entry))) ⌝ }
+        ensures value { λ r. ⌜ r ≡ total-bytes (blocks-of (now (self .entry))) ⌝ }
+        ensures bound { λ r. ⌜ r ≤ max-bytes ⌝ }
     {
         self.bytes().len()
     }

@@ -1,0 +1,13 @@
+pub mod Counting
+pub mod Every
+pub mod Bounded
+pub mod Apart
+pub mod Roots
+pub mod PolynomialLaw
+pub mod Primes
+pub mod Tested
+pub mod Binary
+pub mod SingleLaw
+pub mod HalvesLaw
+pub mod PlaneLaw
+pub mod Cases

@@ -1,0 +1,4 @@
+pub mod Pieced
+pub mod Asked
+pub mod Verbs
+pub mod Prints
