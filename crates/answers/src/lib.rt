@@ -1,4 +1,6 @@
 // What every call answers where it does not succeed, and the numbers of blocks and rows.
+#![tactic(auto)]
+
 ghost use Rattle.std.specs.Prelude.{◌≡◌, Some};
 ghost use Rattle.answers.specs.Refusals.{number_of, shown_as};
 

@@ -1,4 +1,6 @@
 // BLAKE2s of RFC 7693, with no key and 32 answer bytes, as a digest.
+#![tactic(auto)]
+
 ghost use Rattle.blake2s.specs.Absorbed.{Absorbed};
 ghost use Rattle.blake2s.specs.Blake2s.{blake2s};
 ghost use Rattle.digests.specs.Took.{Took};

@@ -1,4 +1,6 @@
 // A digest by what it means: the bytes taken since the start fix what its state means, and that fixes the answer.
+#![tactic(auto)]
+
 ghost use Rattle.std.specs.Prelude.{◌≡◌, ℕ, ◌≤◌, List, [], ◌++◌, length};
 ghost use Rattle.std.specs.List.{flat_map};
 ghost use Rattle.digests.specs.Strings.{Bytes};

@@ -1,4 +1,6 @@
 // Families of rows: which blocks a row holds, so that a few changed blocks show which they are. Theorems first, each on the contract of a function.
+#![tactic(auto)]
+
 ghost use Rattle.families.specs.Family.{BoundedInside};
 ghost use Rattle.families.specs.Field.{PrimeFields, BinaryFields};
 ghost use Rattle.families.specs.Polynomial.{RootCounting, CoefficientsDiffer, PolynomialCoverFree};

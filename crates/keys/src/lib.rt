@@ -1,4 +1,6 @@
 // Keys that sign: what an inspector and a sealer are, numbers that are drawn once, and tag keys.
+#![tactic(auto)]
+
 ghost use Rattle.std.specs.Prelude.{◌≡◌, ℕ, ◌<◌, ◌≤◌, Bool, true, length, take, OnOk};
 ghost use Rattle.digests.specs.Strings.{Bytes};
 ghost use Rattle.keys.specs.Key.{Key, LawfulKey, draw_answer, sign_answer, sign_next_answer, key_after, buffer_after, UnchangedIfRefused, Kept};

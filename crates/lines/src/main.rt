@@ -1,4 +1,6 @@
 // Prints how standard input is cut into blocks: their count, then each one's number and length; or the refusal.
+#![tactic(auto)]
+
 use reports::text_report;
 use sheets::MAX_BYTES;
 use std::io;

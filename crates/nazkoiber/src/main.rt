@@ -1,4 +1,6 @@
 // `nazkoiber replay` runs a script of calls from standard input, and prints what each answered.
+#![tactic(auto)]
+
 mod bench;
 mod call;
 

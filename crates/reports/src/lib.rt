@@ -1,4 +1,6 @@
 // What programs print of a sheet.
+#![tactic(auto)]
+
 ghost use Rattle.std.specs.Prelude.{◌≡◌, ◌++◌, IfOk, string_bytes, codes, decimal, OnOk};
 ghost use Rattle.sheets.specs.Blocks.{blocks_of};
 ghost use Rattle.reports.specs.Reports.{newline, block_lines, sheet_report, text_report};

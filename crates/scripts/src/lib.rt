@@ -1,4 +1,6 @@
 // The words of script lines: they are set apart by single spaces, and are numbers in decimal and bytes in lower-case hex.
+#![tactic(auto)]
+
 ghost use Rattle.std.specs.Prelude.{◌≡◌, ◌+◌, ◌/◌, ◌%◌, ◌<◌, ◌≤◌, [], ◌∷◌, ◌++◌, length, take, drop, IfSome, IfOk, Some, None, vec_items, string_bytes, MatchOption, OnOk};
 ghost use Rattle.std.specs.Option.{option_map};
 ghost use Rattle.scripts.specs.Words.{first_word, behind_word, decimal_value, number_of};

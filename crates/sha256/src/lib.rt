@@ -1,4 +1,6 @@
 // SHA-256 of FIPS 180-4, as a digest.
+#![tactic(auto)]
+
 ghost use Rattle.digests.specs.Took.{Took};
 ghost use Rattle.sha256.specs.Absorbed.{Absorbed};
 ghost use Rattle.sha256.specs.Constants.{ConstantsRule};

@@ -1,4 +1,6 @@
 // A brake test sheet: numbered blocks of bytes, cut from a text or added one by one, and rewritten in place.
+#![tactic(auto)]
+
 ghost use Rattle.sheets.specs.Calls.{lines, LinesOf};
 ghost use Rattle.sheets.specs.Table.{Bytes};
 

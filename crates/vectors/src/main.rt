@@ -1,4 +1,6 @@
 // Prints what digests and HMACs answer to the lines of standard input, for test vectors.
+#![tactic(auto)]
+
 mod digesting;
 mod lines;
 mod pieces;
