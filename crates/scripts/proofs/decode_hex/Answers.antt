@@ -15,10 +15,10 @@ returns-then-word-eq45 c = ap (λ t. Some t) c.new.ensures.items ∙ hex_dash c.
 pub returns : goal.returns
 returns c =
     let word = c.args.word.now in
-    let some : 0 < length word = let e = c.if-is-empty.ensures in grind (arith, nat_tests) in
+    let some : 0 < length word = let e = c.if-is_empty.ensures in grind (arith, nat_tests) in
     let other : length word ≡ 1 → get_or word 0 0 ≡ 45 → ⊥
     = λ one dash. elim c.else-word-eq1.branch [
       | else-word-eq1-via-then-word-eq1+else-word-eq45 w ↦ w.if-word-eq45.false dash
       | else-word-eq1-via-else-word-eq1 w ↦ w.if-word-eq1.false one
     ] in
-    IfOk-weaker c.decode-pairs.result _ _ (λ o e. e ∙ hex_pairs word some other) c.decode-pairs.ensures
+    IfOk-weaker c.decode_pairs.result _ _ (λ o e. e ∙ hex_pairs word some other) c.decode_pairs.ensures

@@ -16,7 +16,7 @@ loop-i-preserved c =
     let i = c.loop-i.i in
     let rest = pairs_bytes (drop (2 * (i + 1)) word) in
     let next = pairs_more word i (omega arith) (vec_items c.loop-i.bytes) c.in-Some.byte c.in-Some.ensures in
-    (ap (λ v. option_map (λ t. v ++ t) rest) c.push-reserved.ensures.items ∙ next ∙ c.loop-i.invariant.0, omega arith, omega arith)
+    (ap (λ v. option_map (λ t. v ++ t) rest) c.push_reserved.ensures.items ∙ next ∙ c.loop-i.invariant.0, omega arith, omega arith)
 
 pub returns : goal.returns
 returns c = pairs_all c.args.word.now (vec_items c.loop-i.bytes) c.loop-i.i (omega arith) ∙ c.loop-i.invariant.0

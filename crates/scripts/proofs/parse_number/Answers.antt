@@ -10,7 +10,7 @@ returns-then-is-empty c = record { value = number_none c.args.word.now c.args.mo
 
 pub loop-i-init : goal.loop-i-init
 loop-i-init c =
-    let some : 0 < length c.args.word.now = let e = c.if-is-empty.ensures in grind (arith, nat_tests) in
+    let some : 0 < length c.args.word.now = let e = c.if-is_empty.ensures in grind (arith, nat_tests) in
     (omega arith, number_some c.args.word.now c.args.most some)
 
 pub returns-in-err-digit : goal.returns-in-err-digit
@@ -24,8 +24,8 @@ returns-then-number-from c =
     let most = c.args.most in
     let old = c.loop-i.number in
     let i = c.loop-i.i in
-    let digit = c.in-ok-digit.digit in
-    let next = digits_more word most old i digit c.loop-i-test.true c.in-ok-digit.ensures.value in
+    let digit = c.in_ok-digit.digit in
+    let next = digits_more word most old i digit c.loop-i-test.true c.in_ok-digit.ensures.value in
     let past = past_most most (old * 10 + digit) (drop (i + 1) word) (omega arith) in
     record { value = past ∙ ap (at_most most) (sym next) ∙ c.loop-i.invariant.1; bound = tt }
 
@@ -35,8 +35,8 @@ loop-i-preserved c =
     let most = c.args.most in
     let old = c.loop-i.number in
     let i = c.loop-i.i in
-    let digit = c.in-ok-digit.digit in
-    let next = digits_more word most old i digit c.loop-i-test.true c.in-ok-digit.ensures.value in
+    let digit = c.in_ok-digit.digit in
+    let next = digits_more word most old i digit c.loop-i-test.true c.in_ok-digit.ensures.value in
     let added = ap (λ d. at_most most (digits_of (old * 10 + d) (drop (i + 1) word))) c.from.ensures in
     (omega arith, added ∙ ap (at_most most) (sym next) ∙ c.loop-i.invariant.1)
 

@@ -11,7 +11,7 @@ loop-i-preserved c =
     let old = string_bytes c.loop-i.text in
     let pair = hex_digit (get_or bytes i 0 / 16) ∷ (hex_digit (get_or bytes i 0 % 16) ∷ []) in
     let rest = pairs_text (drop (i + 1) bytes) in
-    let pushed : string_bytes c.push-pair.new.text ≡ old ++ pair = c.in-ok-push-pair.ensures in
+    let pushed : string_bytes c.push_pair.new.text ≡ old ++ pair = c.in_ok-push_pair.ensures in
     ap (λ t. t ++ rest) pushed ∙ append_assoc old pair rest
     ∙ ap (λ t. old ++ t) (sym (text_more bytes i c.loop-i-test.true)) ∙ c.loop-i.invariant
 

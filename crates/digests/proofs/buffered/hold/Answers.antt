@@ -6,5 +6,5 @@ pub returns : goal.returns
 returns c =
     let held = c.args.held.now in
     let count = c.args.count in
-    take-put_mid count (count + length c.args.piece.now - count) held c.copy-from-slice.new.self (count + length c.args.piece.now) (omega (arith, ap length c.copy-from-slice.ensures.after)) (omega (arith, c.told-held, c.requires))
-    ∙ ap (λ t. take count held ++ t) c.copy-from-slice.ensures.after
+    take-put_mid count (count + length c.args.piece.now - count) held c.copy_from_slice.new.self (count + length c.args.piece.now) (omega (arith, ap length c.copy_from_slice.ensures.after)) (omega (arith, c.told-held, c.requires))
+    ∙ ap (λ t. take count held ++ t) c.copy_from_slice.ensures.after

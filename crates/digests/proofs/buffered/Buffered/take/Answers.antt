@@ -15,9 +15,9 @@ returns g c bs t =
     let piece = c.args.piece.now in
     let room = 64 - s.count in
     let rest = take (length piece - room) (drop room piece) in
-    let gone = c.absorb-blocks-gone.result in
+    let gone = c.absorb_blocks-gone.result in
     let last = take (length rest - gone) c.hold-3.new.held in
-    let left = c.absorb-blocks-gone.ensures.left in
+    let left = c.absorb_blocks-gone.ensures.left in
     let sixty-four : length c.hold-2.new.held ≡ 64 = search rules in
     let head : length (take (room - 0) piece) ≡ room = length-take-le (room - 0) piece (omega arith) ∙ omega arith in
     let full : c.hold-2.new.held ≡ take s.count s.held ++ take room piece
@@ -26,5 +26,5 @@ returns g c bs t =
     let tail-size : length (take (length rest - gone) (drop gone rest)) ≡ length rest - gone = ap length tail ∙ length-drop gone rest in
     let kept : last ≡ drop gone rest
     = ap (λ k. take k c.hold-3.new.held) (sym (zero-add (length (take (length rest - gone) (drop gone rest))) ∙ tail-size)) ∙ c.hold-3.ensures ∙ tail in
-    turned_over g.C.Compressor.absorbed s.inner c.absorb.new.self c.absorb-blocks-gone.new.inner (take s.count s.held) c.hold-2.new.held piece rest last bs room gone
-    c.absorb.ensures full c.absorb-blocks-gone.ensures.absorbs (take_rest piece room) kept (omega (arith, ap length kept, length-drop gone rest, left)) t
+    turned_over g.C.Compressor.absorbed s.inner c.absorb.new.self c.absorb_blocks-gone.new.inner (take s.count s.held) c.hold-2.new.held piece rest last bs room gone
+    c.absorb.ensures full c.absorb_blocks-gone.ensures.absorbs (take_rest piece room) kept (omega (arith, ap length kept, length-drop gone rest, left)) t
