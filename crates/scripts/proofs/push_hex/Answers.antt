@@ -20,7 +20,7 @@ returns-then-is-empty c =
 pub returns : goal.returns
 returns c =
     let bytes = c.args.bytes.now in
-    let below : All (λ b. b < 256) bytes = All-from_get_or (λ b. b < 256) bytes 0 (λ i h. omega (arith, c.ok.bytes i)) in
+    let below : All (λ b. b < 256) bytes = All-from_get_or (λ b. b < 256) bytes 0 (λ i h. omega (arith, c.type-inv.bytes i)) in
     let old = string_bytes c.args.text.now in
     let new = string_bytes c.push-pairs.new.text in
     let some : 0 < length bytes = let e = c.if-is-empty.ensures in grind (arith, nat_tests) in

@@ -10,9 +10,9 @@ loop-i-preserved c =
     let h = c.args.h.now in
     let i = c.loop-i.i in
     let out = c.loop-i.out in
-    let four = c.copy-from-slice.new.self in
+    let four = c.copy_from_slice.new.self in
     let long = c.loop-i.invariant.0 in
-    let word : four ≡ bytes_of (get_or h i 0) = c.copy-from-slice.ensures.after ∙ c.to-le-bytes.ensures in
+    let word : four ≡ bytes_of (get_or h i 0) = c.copy_from_slice.ensures.after ∙ c.to_le_bytes.ensures in
     let four-long : length four ≡ 4 = ap length word in (
       search (rules, places),
       take-put_mid (4 * i) (4 * i + 4 - 4 * i) out four (4 * (i + 1)) (omega arith) (omega arith)

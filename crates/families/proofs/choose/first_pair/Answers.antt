@@ -8,7 +8,7 @@ pub is-fit-requires : goal.is-fit-requires
 is-fit-requires c = let small = All-get_or Small pairs c.loop-i.i (0, 0) (omega arith) all_small in (small.0, small.1, small.2, small.3)
 
 pub loop-i-preserved : goal.loop-i-preserved
-loop-i-preserved c = fit_on c.args.n c.args.d c.loop-i.i pairs (omega arith) c.if-is-fit.ensures ∙ c.loop-i.invariant
+loop-i-preserved c = fit_on c.args.n c.args.d c.loop-i.i pairs (omega arith) c.if-is_fit.ensures ∙ c.loop-i.invariant
 
 pub returns-then-is-fit : goal.returns-then-is-fit
 returns-then-is-fit c = fit_here c.args.n c.args.d c.loop-i.i pairs (omega arith) c.if-is-fit.ensures ∙ c.loop-i.invariant

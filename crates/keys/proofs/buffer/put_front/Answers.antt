@@ -5,5 +5,5 @@ use Rattle.keys.proofs.buffer.put_front.Goals as goal
 
 pub returns : goal.returns
 returns c =
-    let whole = c.copy-from-slice.ensures.after in
+    let whole = c.copy_from_slice.ensures.after in
     record { buffer = search (rules, overwrites); front = simp whole (front_same c.args.bytes.now _) }
