@@ -6,8 +6,8 @@ use Rattle.scripts.proofs.Hex.{hex_none, hex_dash, hex_pairs}
 use Rattle.scripts.proofs.decode_hex.Goals as goal
 use Rattle.scripts.proofs.decode_hex.Goals.{else-word-eq1-via-then-word-eq1+else-word-eq45, else-word-eq1-via-else-word-eq1}
 
-pub returns-then-is-empty : goal.returns-then-is-empty
-returns-then-is-empty c = hex_none c.args.word.now (eqb-true _ _ (sym c.if-is-empty.ensures))
+pub returns-then-is_empty : goal.returns-then-is_empty
+returns-then-is_empty c = hex_none c.args.word.now (eqb-true _ _ (sym c.if-is_empty.ensures))
 
 pub returns-then-word-eq45 : goal.returns-then-word-eq45
 returns-then-word-eq45 c = ap (λ t. Some t) c.new.ensures.items ∙ hex_dash c.args.word.now c.if-word-eq1.true c.if-word-eq45.true

@@ -5,18 +5,18 @@ use Rattle.scripts.specs.Words.{digits_of, at_most}
 use Rattle.scripts.proofs.Words.{number_none, number_some, past_most, digits_more, digits_stop, digits_all}
 use Rattle.scripts.proofs.parse_number.Goals as goal
 
-pub returns-then-is-empty : goal.returns-then-is-empty
-returns-then-is-empty c = record { value = number_none c.args.word.now c.args.most (eqb-true _ _ (sym c.if-is-empty.ensures)); bound = tt }
+pub returns-then-is_empty : goal.returns-then-is_empty
+returns-then-is_empty c = record { value = number_none c.args.word.now c.args.most (eqb-true _ _ (sym c.if-is_empty.ensures)); bound = tt }
 
 pub loop-i-init : goal.loop-i-init
 loop-i-init c =
     let some : 0 < length c.args.word.now = let e = c.if-is_empty.ensures in grind (arith, nat_tests) in
     (omega arith, number_some c.args.word.now c.args.most some)
 
-pub returns-in-err-digit : goal.returns-in-err-digit
-returns-in-err-digit c =
-    let none = digits_stop c.args.word.now c.args.most c.loop-i.number c.loop-i.i c.loop-i-test.true c.in-err-digit.ensures.value in
-    record { value = c.from-residual.ensures ∙ none ∙ c.loop-i.invariant.1; bound = rw c.from-residual.ensures tt }
+pub returns-in_err-digit : goal.returns-in_err-digit
+returns-in_err-digit c =
+    let none = digits_stop c.args.word.now c.args.most c.loop-i.number c.loop-i.i c.loop-i-test.true c.in_err-digit.ensures.value in
+    record { value = c.from_residual.ensures ∙ none ∙ c.loop-i.invariant.1; bound = rw c.from_residual.ensures tt }
 
 pub returns-then-number-from : goal.returns-then-number-from
 returns-then-number-from c =
