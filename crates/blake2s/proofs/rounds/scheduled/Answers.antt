@@ -1,5 +1,5 @@
 use Rattle.blake2s.proofs.Rows.{sigma_below}
 use Rattle.blake2s.proofs.rounds.scheduled.Goals as goal
 
-pub word-at-requires : goal.word-at-requires
-word-at-requires g c = (c.requires.1, sigma_below g.row.R c.args.k)
+pub word_at-requires : goal.word_at-requires
+word_at-requires g c = record { block_len = c.requires.block_len; i_bound = sigma_below g.row.R c.args.k }

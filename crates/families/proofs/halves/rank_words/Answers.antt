@@ -21,7 +21,7 @@ loop-word-preserved c =
       | else-found-lt512 w ↦
           moved w.words-is w.found-is
           (elim w.else-found-lt512.branch [
-            | else-found-lt512-via-then-found-lt512+else-has_half v ↦ found_none t word words found v.if-has-half.ensures c.loop-word.invariant
+            | else-found-lt512-via-then-found-lt512+else-has_half v ↦ found_none t word words found v.if-has_half.ensures c.loop-word.invariant
             | else-found-lt512-via-else-found-lt512 v ↦ found_full t word words found v.if-found-lt512.false c.loop-word.invariant
           ])
     ]

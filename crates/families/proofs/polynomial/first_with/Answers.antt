@@ -8,8 +8,8 @@ returns-then-from-here g c =
     let F = g.F.Field in
     let both =
     here_by (F.order f) (F.plus f) (F.times f) (g.met.F.Field.lawful f) c.args.k c.requires.0 c.args.element c.args.value
-    c.q-q.result c.args.from c.constant-with.result c.q-q.ensures (offered_range (F.order f) (g.met.F.Field.offered f)).1 c.requires.2
-    c.constant-with.ensures c.if-from-here.true
+    c.q-q.result c.args.from c.constant_with.result c.q-q.ensures (offered_range (F.order f) (g.met.F.Field.offered f)).1 c.requires.2
+    c.constant_with.ensures c.if-from-here.true
     in
     record { first = both.0; bound = both.1 }
 
@@ -19,7 +19,7 @@ returns g c =
     let F = g.F.Field in
     let both =
     later_by (F.order f) (F.plus f) (F.times f) (g.met.F.Field.lawful f) c.args.k c.requires.0 c.args.element c.args.value
-    c.q-q.result c.args.from c.constant-with.result c.constant-with-2.result c.q-q.ensures (offered_range (F.order f) (g.met.F.Field.offered f)).1 c.requires.2
-    c.constant-with.ensures c.if-from-here.false c.constant-with-2.ensures
+    c.q-q.result c.args.from c.constant_with.result c.constant_with-2.result c.q-q.ensures (offered_range (F.order f) (g.met.F.Field.offered f)).1 c.requires.2
+    c.constant_with.ensures c.if-from-here.false c.constant_with-2.ensures
     in
     record { first = both.0; bound = both.1 }

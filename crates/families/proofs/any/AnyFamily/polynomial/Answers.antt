@@ -4,30 +4,30 @@ use Rattle.families.specs.Field.{primes, binaries}
 use Rattle.families.specs.Numbered.{made_field, prime_by, binary_numbered}
 use Rattle.families.proofs.any.AnyFamily.polynomial.Goals as goal
 
-pub returns-in-err-new : goal.returns-in-err-new
-returns-in-err-new c =
-    let p = err_from_is_err_and c.from-residual-in-err-new.result c.from-residual-in-err-new.ensures.1 in
-    let e = c.in-ok-field.field.degree in
+pub returns-in_err-new-in-8 : goal.returns-in_err-new-in-8
+returns-in_err-new-in-8 c =
+    let p = err_from_is_err_and c.from_residual-in_err-new-in-8.result c.from_residual-in_err-new-in-8.ensures.1 in
+    let e = c.in_ok-field-in-8.field.degree in
     rw (p.1, p.2)
-    (c.in-err-new.ensures
-    ∙ binary_numbered e c.args.q c.in-ok-field.field.known (made_field binaries c.args.q (2 ^ e) c.in-ok-field.ensures) c.args.k c.args.n)
+    (c.in_err-new-in-8.ensures
+    ∙ binary_numbered e c.args.q c.in_ok-field-in-8.field.known (made_field binaries c.args.q (2 ^ e) c.in_ok-field-in-8.ensures.answer) c.args.k c.args.n)
 
-pub returns-in-ok-new : goal.returns-in-ok-new
-returns-in-ok-new c =
-    let e = c.in-ok-field.field.degree in
-    c.in-ok-new.ensures
-    ∙ binary_numbered e c.args.q c.in-ok-field.field.known (made_field binaries c.args.q (2 ^ e) c.in-ok-field.ensures) c.args.k c.args.n
+pub returns-in_ok-new-in-8 : goal.returns-in_ok-new-in-8
+returns-in_ok-new-in-8 c =
+    let e = c.in_ok-field-in-8.field.degree in
+    c.in_ok-new-in-8.ensures
+    ∙ binary_numbered e c.args.q c.in_ok-field-in-8.field.known (made_field binaries c.args.q (2 ^ e) c.in_ok-field-in-8.ensures.answer) c.args.k c.args.n
 
-pub returns-in-err-new-2 : goal.returns-in-err-new-2
-returns-in-err-new-2 c =
-    let p = err_from_is_err_and c.from-residual-in-err-new-2.result c.from-residual-in-err-new-2.ensures.1 in
-    let f = c.in-ok-field-2.field in
+pub returns-in_err-new-in_default : goal.returns-in_err-new-in_default
+returns-in_err-new-in_default c =
+    let p = err_from_is_err_and c.from_residual-in_err-new-in_default.result c.from_residual-in_err-new-in_default.ensures.1 in
+    let f = c.in_ok-field-in_default.field in
     rw (p.1, p.2)
-    (c.in-err-new-2.ensures
-    ∙ prime_by f.q c.args.q f.prime (made_field primes c.args.q f.q c.in-ok-field-2.ensures) c.args.k c.args.n)
+    (c.in_err-new-in_default.ensures
+    ∙ prime_by f.q c.args.q f.prime (made_field primes c.args.q f.q c.in_ok-field-in_default.ensures.answer) c.args.k c.args.n)
 
-pub returns-in-ok-new-2 : goal.returns-in-ok-new-2
-returns-in-ok-new-2 c =
-    let f = c.in-ok-field-2.field in
-    c.in-ok-new-2.ensures
-    ∙ prime_by f.q c.args.q f.prime (made_field primes c.args.q f.q c.in-ok-field-2.ensures) c.args.k c.args.n
+pub returns-in_ok-new-in_default : goal.returns-in_ok-new-in_default
+returns-in_ok-new-in_default c =
+    let f = c.in_ok-field-in_default.field in
+    c.in_ok-new-in_default.ensures
+    ∙ prime_by f.q c.args.q f.prime (made_field primes c.args.q f.q c.in_ok-field-in_default.ensures.answer) c.args.k c.args.n

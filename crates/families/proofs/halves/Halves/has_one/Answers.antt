@@ -12,8 +12,8 @@ returns c =
     ranked_bit f.t f.n f.words two f.ranked c.args.row c.args.block (omega arith) (omega arith) (omega arith)
     ∙ ap (λ t. halves_held t c.args.row c.args.block) f.rows
 
-pub overflow-shr-result : goal.overflow-shr-result
-overflow-shr-result c =
+pub overflow_shr-result : goal.overflow_shr-result
+overflow_shr-result c =
     let f = c.args.self.now in
     let range = rows_range f.n (omega (arith, f.most)) in
     omega (arith, range.1, f.rows)

@@ -4,9 +4,9 @@ use Rattle.families.specs.Numbers.{count}
 use Rattle.families.specs.HalvesLaw.{rows_suffice}
 use Rattle.families.proofs.halves.Halves.new.Goals as goal
 
-pub rank-words-words-requires : goal.rank-words-words-requires
-rank-words-words-requires c = (
-  c.rows-for-t.ensures.bound,
+pub rank_words-words-requires : goal.rank_words-words-requires
+rank_words-words-requires c = (
+  c.rows_for-t.ensures.bound,
   omega arith,
-  subst (λ t. c.args.n ≤ count (half_ones t) (2 ^ t)) (sym c.rows-for-t.ensures.value) (rows_suffice c.args.n (omega arith)),
+  subst (λ t. c.args.n ≤ count (half_ones t) (2 ^ t)) (sym c.rows_for-t.ensures.value) (rows_suffice c.args.n (omega arith)),
 )

@@ -13,5 +13,5 @@ returns g c =
     let row = c.args.row.0 in
     let block = c.args.block.0 in
     let at = λ (p : ℕ). eqb (value sum product (digits q s.k (block - 1)) ((row - 1) / p)) ((row - 1) % p) in
-    ap (λ v. eqb v ((row - 1) % c.q-q.result)) c.value-at.ensures ∙ ap at c.q-q.ensures
-    ∙ sym (holds_at q sum product (g.met.F.Field.lawful f) s.k s.n row block (omega arith) (omega (arith, c.row-count.ensures)) (omega arith) (omega (arith, c.block-count.ensures)))
+    ap (λ v. eqb v ((row - 1) % c.q-q.result)) c.value_at.ensures ∙ ap at c.q-q.ensures
+    ∙ sym (holds_at q sum product (g.met.F.Field.lawful f) s.k s.n row block (omega arith) (omega (arith, c.row_count.ensures)) (omega arith) (omega (arith, c.block_count.ensures)))

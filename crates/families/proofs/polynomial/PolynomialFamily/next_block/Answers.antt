@@ -6,7 +6,7 @@ use Rattle.families.specs.Polynomial.{poly_blocks, poly_holds, FirstWith}
 use Rattle.families.specs.Lowest.{lowest_end}
 use Rattle.families.proofs.PolynomialRows.{next_there, next_nowhere, next_outside}
 use Rattle.families.proofs.polynomial.PolynomialFamily.next_block.Goals as goal
-use Rattle.families.proofs.polynomial.PolynomialFamily.next_block.Goals.{then-row-eq0-via-then-row-eq0, then-row-eq0-via-else-row-eq0+then-row-row-count}
+use Rattle.families.proofs.polynomial.PolynomialFamily.next_block.Goals.{then-row-eq0-via-then-row-eq0, then-row-eq0-via-else-row-eq0+then-row-row_count}
 
 pub returns-then-row-eq0 : goal.returns-then-row-eq0
 returns-then-row-eq0 g c =
@@ -15,7 +15,7 @@ returns-then-row-eq0 g c =
     let row = c.args.row.0 in
     let out : (row ≡ 0) ⊎ (q * q < row) = elim c.then-row-eq0.branch [
       | then-row-eq0-via-then-row-eq0 w ↦ inl w.if-row-eq0.true
-      | then-row-eq0-via-else-row-eq0+then-row-row-count w ↦ inr (omega (arith, w.row-count.ensures, w.if-row-row-count.true))
+      | then-row-eq0-via-else-row-eq0+then-row-row_count w ↦ inr (omega (arith, w.row_count.ensures, w.if-row-row_count.true))
     ] in
     sym (ap (option_map block_number) (next_outside q (g.F.Field.plus s.field) (g.F.Field.times s.field) (g.met.F.Field.lawful s.field) s.k s.n row c.args.after.0 out))
 
@@ -24,7 +24,7 @@ returns-then-after-n g c =
     let s = c.args.self.now in
     let q = g.F.Field.order s.field in
     let held = poly_holds q (g.F.Field.plus s.field) (g.F.Field.times s.field) s.k s.n c.args.row.0 in
-    let none : poly_blocks q s.k s.n - c.args.after.0 ≡ 0 = omega (arith, c.block-count-n.ensures) in
+    let none : poly_blocks q s.k s.n - c.args.after.0 ≡ 0 = omega (arith, c.block_count-n.ensures) in
     sym (ap (λ room. option_map block_number (lowest held (c.args.after.0 + 1) room)) none ∙ ap (option_map block_number) (lowest_end held (c.args.after.0 + 1)))
 
 pub returns-then-next-n : goal.returns-then-next-n
@@ -33,11 +33,11 @@ returns-then-next-n g c =
     let f = s.field in
     let q = g.F.Field.order f in
     let row = c.args.row.0 in
-    let first = subst (λ p. FirstWith q (g.F.Field.plus f) (g.F.Field.times f) s.k ((row - 1) / p) ((row - 1) % p) c.args.after.0 c.first-with-next.result)
-    c.q-q.ensures c.first-with-next.ensures.first in
+    let first = subst (λ p. FirstWith q (g.F.Field.plus f) (g.F.Field.times f) s.k ((row - 1) / p) ((row - 1) % p) c.args.after.0 c.first_with-next.result)
+    c.q-q.ensures c.first_with-next.ensures.first in
     sym (ap (option_map block_number)
-    (next_there q (g.F.Field.plus f) (g.F.Field.times f) (g.met.F.Field.lawful f) s.k s.n row (omega arith) (omega (arith, c.row-count.ensures))
-    c.args.after.0 c.first-with-next.result first (omega (arith, c.block-count-n.ensures))))
+    (next_there q (g.F.Field.plus f) (g.F.Field.times f) (g.met.F.Field.lawful f) s.k s.n row (omega arith) (omega (arith, c.row_count.ensures))
+    c.args.after.0 c.first_with-next.result first (omega (arith, c.block_count-n.ensures))))
 
 pub returns-else-next-n : goal.returns-else-next-n
 returns-else-next-n g c =
@@ -45,8 +45,8 @@ returns-else-next-n g c =
     let f = s.field in
     let q = g.F.Field.order f in
     let row = c.args.row.0 in
-    let first = subst (λ p. FirstWith q (g.F.Field.plus f) (g.F.Field.times f) s.k ((row - 1) / p) ((row - 1) % p) c.args.after.0 c.first-with-next.result)
-    c.q-q.ensures c.first-with-next.ensures.first in
+    let first = subst (λ p. FirstWith q (g.F.Field.plus f) (g.F.Field.times f) s.k ((row - 1) / p) ((row - 1) % p) c.args.after.0 c.first_with-next.result)
+    c.q-q.ensures c.first_with-next.ensures.first in
     sym (ap (option_map block_number)
-    (next_nowhere q (g.F.Field.plus f) (g.F.Field.times f) (g.met.F.Field.lawful f) s.k s.n row (omega arith) (omega (arith, c.row-count.ensures))
-    c.args.after.0 c.first-with-next.result (omega (arith, c.block-count-n.ensures)) first (omega (arith, c.block-count-n.ensures))))
+    (next_nowhere q (g.F.Field.plus f) (g.F.Field.times f) (g.met.F.Field.lawful f) s.k s.n row (omega arith) (omega (arith, c.row_count.ensures))
+    c.args.after.0 c.first_with-next.result (omega (arith, c.block_count-n.ensures)) first (omega (arith, c.block_count-n.ensures))))

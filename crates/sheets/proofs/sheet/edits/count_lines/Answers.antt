@@ -1,15 +1,15 @@
 use Rattle.std.proofs.Common.{◌≡◌, length, sym, ap, ◌∙◌, arith}
 use Rattle.sheets.proofs.Lines.{length_lines, line_ends_yes, line_ends_no, line_ends_all}
 use Rattle.sheets.proofs.sheet.edits.count_lines.Goals as goal
-use Rattle.sheets.proofs.sheet.edits.count_lines.Goals.{then-ends-line, else-ends-line}
+use Rattle.sheets.proofs.sheet.edits.count_lines.Goals.{then-ends_line, else-ends_line}
 
 pub loop-i-preserved : goal.loop-i-preserved
 loop-i-preserved c =
     let text = c.args.text.now in
     let i = c.loop-i.i in
-    elim c.if-ends-line.branch [
-      | then-ends-line w ↦ omega (arith, w.count_is, ap length (line_ends_yes text i c.loop-i-test.true w.if-ends-line.ensures))
-      | else-ends-line w ↦ omega (arith, w.count_is, ap length (line_ends_no text i c.loop-i-test.true w.if-ends-line.ensures))
+    elim c.if-ends_line.branch [
+      | then-ends_line w ↦ omega (arith, w.count-is, ap length (line_ends_yes text i c.loop-i-test.true w.if-ends_line.ensures))
+      | else-ends_line w ↦ omega (arith, w.count-is, ap length (line_ends_no text i c.loop-i-test.true w.if-ends_line.ensures))
     ]
 
 pub returns : goal.returns

@@ -3,20 +3,20 @@ use Rattle.sheets.specs.Table.{moved}
 use Rattle.sheets.proofs.Moved.{length_moved, moved_at, moved_none, over_more, over_all, over_read}
 use Rattle.sheets.proofs.sheet.edits.move_ends.Goals as goal
 
-pub overflow-sub-index : goal.overflow-sub-index
-overflow-sub-index c =
+pub overflow_sub-index : goal.overflow_sub-index
+overflow_sub-index c =
     let k = c.loop-k.k in
     let is = over_read c.args.back c.args.on (vec_items c.args.ends.now) (vec_items c.loop-k.ends) c.args.index k c.index.result.now c.loop-k.invariant.0 (omega (arith, c.args.ends.now.ok.0)) c.index.ensures in
     omega (arith, c.requires.1 k (omega arith) (omega arith))
 
-pub overflow-add-index : goal.overflow-add-index
-overflow-add-index c =
+pub overflow_add-index : goal.overflow_add-index
+overflow_add-index c =
     let k = c.loop-k.k in
     let is = over_read c.args.back c.args.on (vec_items c.args.ends.now) (vec_items c.loop-k.ends) c.args.index k c.index.result.now c.loop-k.invariant.0 (omega (arith, c.args.ends.now.ok.0)) c.index.ensures in
     omega (arith, c.requires.1 k (omega arith) (omega arith))
 
-pub overflow-cast-index-in-loop-k : goal.overflow-cast-index-in-loop-k
-overflow-cast-index-in-loop-k c =
+pub overflow_cast-index-in-loop-k : goal.overflow_cast-index-in-loop-k
+overflow_cast-index-in-loop-k c =
     let k = c.loop-k.k in
     let is = over_read c.args.back c.args.on (vec_items c.args.ends.now) (vec_items c.loop-k.ends) c.args.index k c.index.result.now c.loop-k.invariant.0 (omega (arith, c.args.ends.now.ok.0)) c.index.ensures in
     omega (arith, c.requires.1 k (omega arith) (omega arith))

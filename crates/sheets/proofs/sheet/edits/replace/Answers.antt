@@ -12,11 +12,11 @@ returns c =
     let long : vec_len c.args.all.now ≡ length xs = c.args.all.now.ok.0 in
     let low : start ≤ end = c.requires.0 in
     let high : end ≤ length xs = omega arith in
-    let went : is_ok c.extend-from-slice.result ≡ true = c.extend-from-slice.ensures.succeeds (omega arith) in
-    let added : vec_items c.extend-from-slice.new.self ≡ vec_items c.truncate.new.self ++ new
-    = c.extend-from-slice.ensures.items ∙ cond-true (is_ok c.extend-from-slice.result) _ _ went in
+    let went : is_ok c.extend_from_slice.result ≡ true = c.extend_from_slice.ensures.succeeds (omega arith) in
+    let added : vec_items c.extend_from_slice.new.self ≡ vec_items c.truncate.new.self ++ new
+    = c.extend_from_slice.ensures.items ∙ cond-true (is_ok c.extend_from_slice.result) _ _ went in
     let kept : vec_items c.truncate.new.self ≡ take start xs ++ drop end xs
     = let k = cut xs new start end low high in cc in
-    let back = turned_back xs new start end low high (vec_items c.extend-from-slice.new.self) (added ∙ ap (λ t. t ++ new) kept) in
-    let grown = c.extend-from-slice.ensures.len ∙ cond-true (is_ok c.extend-from-slice.result) _ _ went in
+    let back = turned_back xs new start end low high (vec_items c.extend_from_slice.new.self) (added ∙ ap (λ t. t ++ new) kept) in
+    let grown = c.extend_from_slice.ensures.len ∙ cond-true (is_ok c.extend_from_slice.result) _ _ went in
     record { items = cc; len = omega arith; capacity = omega arith }

@@ -6,14 +6,14 @@ use Rattle.sheets.proofs.sheet.edits.turn.Goals as goal
 
 pub returns : goal.returns
 returns c =
-    let xs = c.as-mut-slice-bytes.result.now in
+    let xs = c.as_mut_slice-bytes.result.now in
     let start = c.args.start in
     let by = c.args.by in
-    let same : xs ≡ vec_items c.args.all.now = c.as-mut-slice-bytes.ensures.value in
+    let same : xs ≡ vec_items c.args.all.now = c.as_mut_slice-bytes.ensures.value in
     let fits : start ≤ length xs = omega arith in
-    let put = part_turned xs c.rotate-left.new.self start by fits c.rotate-left.ensures.after in
-    let long : length (put_mid start (length xs - start) xs c.rotate-left.new.self) ≡ c.args.all.now.len
-    = ap length put ∙ length_turned xs start by ∙ c.as-mut-slice-bytes.ensures.len in
+    let put = part_turned xs c.rotate_left.new.self start by fits c.rotate_left.ensures.after in
+    let long : length (put_mid start (length xs - start) xs c.rotate_left.new.self) ≡ c.args.all.now.len
+    = ap length put ∙ length_turned xs start by ∙ c.as_mut_slice-bytes.ensures.len in
     record {
       items = with_items_is c.args.all.now _ long ∙ put ∙ ap (λ t. turned t start by) same;
       len = refl;
