@@ -12,10 +12,10 @@ unfolding lanes
 returns c =
     let s = c.args.s in
     let w0 = lanes c.load-w.result in
-    let w1 = lanes c.next-sixteen-w.result in
-    let w2 = lanes c.next-sixteen-w-2.result in
-    let w3 = lanes c.next-sixteen-w-3.result in
+    let w1 = lanes c.next_sixteen-w.result in
+    let w2 = lanes c.next_sixteen-w-2.result in
+    let w3 = lanes c.next_sixteen-w-3.result in
     c.sum.ensures
     ∙ ap (λ t. added t s)
-    (c.sixteen-rounds-t-4.ensures ∙ ap (rounds K3 w3) (c.sixteen-rounds-t-3.ensures ∙ ap (rounds K2 w2) (c.sixteen-rounds-t-2.ensures ∙ ap (rounds K1 w1) c.sixteen-rounds-t.ensures)))
-    ∙ compressed_is s c.args.block.now w0 w1 w2 w3 c.load-w.ensures c.next-sixteen-w.ensures c.next-sixteen-w-2.ensures c.next-sixteen-w-3.ensures
+    (c.sixteen_rounds-t-4.ensures ∙ ap (rounds K3 w3) (c.sixteen_rounds-t-3.ensures ∙ ap (rounds K2 w2) (c.sixteen_rounds-t-2.ensures ∙ ap (rounds K1 w1) c.sixteen_rounds-t.ensures)))
+    ∙ compressed_is s c.args.block.now w0 w1 w2 w3 c.load-w.ensures c.next_sixteen-w.ensures c.next_sixteen-w-2.ensures c.next_sixteen-w-3.ensures

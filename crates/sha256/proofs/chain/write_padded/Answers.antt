@@ -13,8 +13,8 @@ returns c =
     let n = length last in
     let zeros = post_of 0 (n - 0) c.args.blocks.now in
     let none : zeros ≡ replicate (128 - n) 0 = ap (λ k. drop k c.args.blocks.now) (sub-zero n) ∙ ap (drop n) c.requires.2 ∙ drop-replicate n 128 0 in
-    let bits : c.copy-from-slice-2.new.self ≡ u64_bytes (8 * c.args.message % 2 ^ 64)
-    = c.copy-from-slice-2.ensures.after ∙ c.to-be-bytes.ensures ∙ ap (λ k. u64_bytes (k % 2 ^ 64)) (mul_comm c.args.message 8) in
-    ap (λ t. take size (put_mid (size - 8) (size - (size - 8)) (set (t ++ zeros) n 0x80) c.copy-from-slice-2.new.self)) c.copy-from-slice.ensures.after
-    ∙ padded_is last size c.requires.0 c.requires.1 zeros c.copy-from-slice-2.new.self (size - (size - 8)) none (ap length bits)
+    let bits : c.copy_from_slice-2.new.self ≡ u64_bytes (8 * c.args.message % 2 ^ 64)
+    = c.copy_from_slice-2.ensures.after ∙ c.to_be_bytes.ensures ∙ ap (λ k. u64_bytes (k % 2 ^ 64)) (mul_comm c.args.message 8) in
+    ap (λ t. take size (put_mid (size - 8) (size - (size - 8)) (set (t ++ zeros) n 0x80) c.copy_from_slice-2.new.self)) c.copy_from_slice.ensures.after
+    ∙ padded_is last size c.requires.0 c.requires.1 zeros c.copy_from_slice-2.new.self (size - (size - 8)) none (ap length bits)
     ∙ ap (λ t. last ++ (0x80 ∷ (replicate (size - 9 - n) 0 ++ t))) bits

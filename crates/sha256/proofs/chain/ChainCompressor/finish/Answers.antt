@@ -9,5 +9,5 @@ returns c bs h some =
     let message = (c.args.self.count + length last) % 2 ^ 64 in
     let end = last ++ padding message in
     let same : message % 64 ≡ length last % 64 = omega (arith, h.count_is, h.whole) in
-    c.big-endian.ensures ∙ ap state_bytes (c.last-blocks.ensures same ∙ ap (hashed (length end / 64) end) h.state_is)
+    c.big_endian.ensures ∙ ap state_bytes (c.last_blocks.ensures same ∙ ap (hashed (length end / 64) end) h.state_is)
     ∙ finished bs last c.args.self.count message h.whole h.count_is refl
