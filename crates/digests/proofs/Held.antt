@@ -1,5 +1,5 @@
 -- What a buffered state stands for after one piece more.
-use Rattle.std.proofs.Common.{◌≡◌, ℕ, ◌+◌, ◌-◌, ◌<◌, ◌≤◌, ◌⊎◌, List, [], ◌++◌, length, take, drop, sym, refl, ap, ◌∙◌, subst, inl, inr, ⊎_elim, append_assoc, arith, length-append, take-add}
+use Rattle.std.proofs.Common.{◌≡◌, ℕ, ◌+◌, ◌-◌, ◌≤◌, ◌++◌, length, take, drop, sym, ap, ◌∙◌, subst, inl, inr, ⊎_elim, append_assoc, arith, length-append, take-add}
 use Rattle.std.proofs.lemmas.List.{take-append-drop}
 use Rattle.digests.specs.Strings.{Bytes}
 use Rattle.digests.specs.Took.{Took}

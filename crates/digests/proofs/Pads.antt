@@ -3,7 +3,7 @@ use Rattle.std.proofs.Common.{◌≡◌, ℕ, zero, suc, ◌+◌, ◌-◌, ◌<�
 use lib.Bits.{bit_xor}
 use lib.Seq.{take-append-add}
 use lib.ListN.{length-map}
-use Rattle.std.proofs.lemmas.List.{set_at, map_more, length-take-le, take_all, map-append, take-append-le, take-replicate}
+use Rattle.std.proofs.lemmas.List.{set_at, map_more, length-take-le, map-append, take-replicate}
 use Rattle.digests.specs.Hmac.{under, padded}
 
 -- what the first i bytes come to in front of the mask

@@ -1,5 +1,5 @@
 -- The first pair that fits.
-use Rattle.std.proofs.Common.{◌≡◌, ℕ, zero, suc, ◌+◌, ◌^◌, ◌<◌, ◌≤◌, Bool, true, false, not, ◌&&◌, eqb, leb, List, [], ◌∷◌, ◌++◌, length, get_or, drop, is_some, Some, None, Ok, Err, Option, Result, unwrap_or, sym, refl, ap, ◌∙◌, subst, inl, inr, append_assoc, arith}
+use Rattle.std.proofs.Common.{◌≡◌, ℕ, zero, suc, ◌+◌, ◌^◌, ◌<◌, ◌≤◌, true, false, not, eqb, leb, List, [], ◌∷◌, ◌++◌, length, get_or, drop, is_some, Some, None, Ok, Err, Option, Result, unwrap_or, sym, refl, ap, ◌∙◌, subst, inl, inr, append_assoc, arith}
 use Rattle.std.specs.List.{AllByRecursion as All}
 use Rattle.std.proofs.ByRecursion.{All-append}
 use Rattle.std.proofs.lemmas.Bool.{cases_Bool, cond-true, cond-false, and_parts, leb-true, eq-eqb, ne_eqb}
@@ -15,7 +15,7 @@ use Rattle.answers.specs.Refusals.{unless}
 use Rattle.families.specs.Shape.{Shape}
 use Rattle.families.specs.Halves.{halves_shape}
 use Rattle.families.specs.Making.{bad_count}
-use Rattle.families.specs.Choice.{numbered_shape, numbered_answer, pairs, fits, first_fit, chosen, choose_answer, FirstFit, Chosen, NothingFits}
+use Rattle.families.specs.Choice.{numbered_shape, numbered_answer, pairs, fits, first_fit, chosen, choose_answer, FirstFit, NothingFits}
 use Rattle.families.specs.Lawful.{offered_range, degree_range}
 
 abbrev pub Pair : Type 0

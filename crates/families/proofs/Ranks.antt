@@ -1,9 +1,9 @@
 -- Numbers in the order of their rank among those with half of their bits one.
-use Rattle.std.proofs.Common.{◌≡◌, ℕ, zero, suc, ◌+◌, ◌-◌, ◌/◌, ◌%◌, ◌^◌, ◌<◌, ◌≤◌, min, Bool, true, false, cond, eqb, ◌≢◌, List, [], ◌∷◌, length, get_or, set, sym, refl, ap, ◌∙◌, ap₂, inl, inr, add_assoc, div-lt_iff_lt-mul, pow-suc, div-one, add-one, arith, length-set, get_or-set_other, get_or-set_same}
+use Rattle.std.proofs.Common.{◌≡◌, ℕ, zero, suc, ◌+◌, ◌-◌, ◌/◌, ◌%◌, ◌^◌, ◌<◌, ◌≤◌, min, Bool, true, false, cond, eqb, ◌≢◌, List, [], ◌∷◌, length, get_or, set, sym, refl, ap, ◌∙◌, ap₂, inl, inr, div-one, add-one, arith, length-set, get_or-set_other, get_or-set_same}
 use lib.Count.{ones, ones_step}
 use Rattle.std.proofs.lemmas.Bool.{cases_Bool, cases_eq, and_parts, and_from, eq-eqb, eqb-true, eqb-false, cond-true, cond-false, le-leb, lt-leb}
 use Rattle.families.specs.Numbers.{count}
-use Rattle.families.specs.Halves.{bit, half_ones, jth_half, halves_held, first_limit, Ranked}
+use Rattle.families.specs.Halves.{bit, half_ones, halves_held, first_limit, Ranked}
 use Rattle.families.specs.HalvesLaw.{bit_next, count_grows, held, not_held}
 
 -- the first number counted apart

@@ -12,7 +12,7 @@ fn main(rt: HostRuntime) -> io::Result<()> {
     let mut words = env::args(&rt)?;
     let _ = words.next();
     if let Some(word) = words.next() {
-        if word == "replay" && words.next().is_none() {
+        if word.as_str() == "replay" && words.next().is_none() {
             return run(&rt);
         }
     }

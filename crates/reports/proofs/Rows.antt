@@ -1,12 +1,10 @@
 -- One line more of a report, and what a block that is there answers.
-use Rattle.std.proofs.Common.{◌≡◌, ℕ, ◌+◌, ◌-◌, ◌<◌, ◌≤◌, false, eqb, ltb, List, [], ◌∷◌, ◌++◌, length, get_or, drop, Ok, Err, Result, sym, refl, ap, ◌∙◌, append_assoc, arith}
+use Rattle.std.proofs.Common.{◌≡◌, ℕ, ◌+◌, ◌-◌, ◌<◌, ◌≤◌, false, eqb, ltb, List, [], ◌++◌, length, get_or, drop, Ok, arith}
 use Rattle.std.proofs.lemmas.Bool.Decides.{nat_tests}
 use Rattle.std.proofs.lemmas.List.{at_drop_more, at_drop_all}
-use Rattle.answers.specs.declared.Refusal.{Refusal}
-use Rattle.answers.specs.Refusals.{shown_as}
 use Rattle.sheets.specs.Table.{Bytes}
-use Rattle.sheets.specs.Calls.{block_at, no_block, lines, block_answer, cut_answer}
-use Rattle.reports.specs.Reports.{newline, block_line, block_lines, sheet_report, report_of, text_report}
+use Rattle.sheets.specs.Calls.{block_answer}
+use Rattle.reports.specs.Reports.{block_line, block_lines}
 
 -- the lines from an index on
 abbrev pub lines_from : ℕ → List Bytes → Bytes

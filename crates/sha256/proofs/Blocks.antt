@@ -1,5 +1,5 @@
 -- A block's rounds, sixteen at a time.
-use Rattle.std.proofs.Common.{◌≡◌, ℕ, List, ◌++◌, length, sym, refl, ap, ◌∙◌}
+use Rattle.std.proofs.Common.{◌≡◌, ℕ, List, length, sym, refl, ap, ◌∙◌}
 use Rattle.digests.specs.Strings.{Bytes}
 use Rattle.sha256.specs.declared.state.State.{State}
 use Rattle.sha256.specs.Parts.{sixteen_more}

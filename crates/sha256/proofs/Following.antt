@@ -1,5 +1,5 @@
 -- The words that follow sixteen.
-use Rattle.std.proofs.Common.{◌≡◌, ℕ, ◌+◌, ◌%◌, ◌^◌, List, [], ◌∷◌, ◌++◌, length, drop, sym, refl, ap, ◌∙◌, arith}
+use Rattle.std.proofs.Common.{◌≡◌, ℕ, ◌+◌, ◌%◌, ◌^◌, [], ◌∷◌, refl, ap, ◌∙◌, arith}
 use Rattle.sha256.specs.Parts.{four_more}
 use Rattle.sha256.specs.Sha256.{σ0, σ1, plus, extended}
 

@@ -1,8 +1,8 @@
 -- The writes that pad the last bytes.
-use Rattle.std.proofs.Common.{◌≡◌, ℕ, suc, ◌+◌, ◌-◌, ◌<◌, ◌≤◌, List, [], ◌∷◌, ◌++◌, length, take, drop, set, replicate, sym, refl, ap, ◌∙◌, append_assoc, arith, length-append, length-set}
+use Rattle.std.proofs.Common.{◌≡◌, ℕ, suc, ◌+◌, ◌-◌, ◌≤◌, List, ◌∷◌, ◌++◌, length, take, set, replicate, refl, ap, ◌∙◌, append_assoc, arith, length-append, length-set}
 use lib.Seq.{take-append-add}
 use borrow.Rule.Slice.PartMut.{put_mid}
-use Rattle.std.proofs.lemmas.List.{set_at, take-replicate, drop-replicate, length-replicate}
+use Rattle.std.proofs.lemmas.List.{set_at, take-replicate, length-replicate}
 use Rattle.std.proofs.lemmas.Slice.{take-put_mid}
 
 module _ (last : List ℕ) (size : ℕ) (room : length last + 9 ≤ size) (most : size ≤ 128) where

@@ -1,5 +1,5 @@
 -- Rounds with the sums of constants and words.
-use Rattle.std.proofs.Common.{◌≡◌, ℕ, suc, ◌+◌, ◌%◌, ◌^◌, List, [], ◌∷◌, ◌++◌, length, get_or, sym, refl, ap, ◌∙◌, arith}
+use Rattle.std.proofs.Common.{◌≡◌, ℕ, ◌+◌, ◌%◌, ◌^◌, List, [], ◌∷◌, ◌++◌, length, get_or, sym, refl, ap, ◌∙◌, arith}
 use lib.Lanes.{zip2}
 use Rattle.sha256.specs.declared.state.State.{State}
 use Rattle.sha256.specs.Parts.{summed_round}

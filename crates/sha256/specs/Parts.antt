@@ -1,5 +1,5 @@
 -- How the code takes the rounds apart. Assumes nothing.
-use Rattle.std.specs.Prelude.{ℕ, ◌+◌, ◌%◌, ◌^◌, List, drop}
+use Rattle.std.specs.Prelude.{ℕ, List, drop}
 use Rattle.sha256.specs.declared.state.State.{State}
 use Rattle.sha256.specs.Sha256.{plus, Σ0, Σ1, Ch, Maj, extended}
 

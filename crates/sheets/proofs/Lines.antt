@@ -1,10 +1,10 @@
 -- A text cut at its line ends is its lines, and the loops over the line ends.
-use Rattle.std.proofs.Common.{◌≡◌, ℕ, zero, suc, ◌+◌, ◌-◌, ◌<◌, ◌≤◌, Bool, true, false, cond, ◌||◌, eqb, List, [], ◌∷◌, ◌++◌, length, get_or, take, drop, sym, refl, ap, ◌∙◌, subst, append_assoc, add-zero, zero-add, arith, length-drop}
+use Rattle.std.proofs.Common.{◌≡◌, ℕ, ◌+◌, ◌-◌, ◌<◌, ◌≤◌, Bool, true, false, cond, ◌||◌, eqb, List, [], ◌∷◌, ◌++◌, length, get_or, drop, sym, refl, ap, ◌∙◌, subst, append_assoc, add-zero, arith, length-drop}
 use Rattle.std.specs.List.{flat_map}
 use Rattle.std.proofs.lemmas.Bool.Decides.{nat_tests}
 use Rattle.std.proofs.lemmas.List.{at_drop_more, at_drop_all, take_at, drop_at, length_push}
 use Rattle.sheets.specs.Table.{Bytes, pieces, line_ends}
-use Rattle.sheets.specs.Calls.{in_front, lines, ended_line, open_line, all_lines, LinesOf}
+use Rattle.sheets.specs.Calls.{in_front, lines, all_lines, LinesOf}
 use Rattle.sheets.proofs.Pieces.{Rises, length_pieces}
 
 -- whether the text's line ends with the byte at an index

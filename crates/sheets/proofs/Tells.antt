@@ -1,9 +1,9 @@
 -- What the answers of the calls say, where they are good.
-use Rattle.std.proofs.Common.{◌≡◌, ℕ, ◌+◌, ◌-◌, ◌<◌, ◌≤◌, Bool, true, false, eqb, List, [], length, get_or, is_ok, Ok, Err, sym, ap, ◌∙◌, arith}
+use Rattle.std.proofs.Common.{◌≡◌, ℕ, ◌+◌, ◌-◌, ◌<◌, ◌≤◌, true, false, List, [], length, get_or, is_ok, Ok, Err, arith}
 use Rattle.std.proofs.lemmas.Bool.Decides.{nat_tests}
-use Rattle.answers.specs.declared.Refusal.TheVariants.{TooLong, SheetFull}
+use Rattle.answers.specs.declared.Refusal.TheVariants.{SheetFull}
 use Rattle.sheets.specs.Table.{Bytes}
-use Rattle.sheets.specs.Calls.{total_bytes, block_at, with_block, no_block, lines, cut_answer, add_answer, rewrite_answer, block_answer}
+use Rattle.sheets.specs.Calls.{total_bytes, with_block, no_block, lines, cut_answer, add_answer, rewrite_answer, block_answer}
 
 is_block : (n j : ℕ) → 1 ≤ j → j ≤ n → no_block n j ≡ false
 is_block n j h k = grind (arith, nat_tests)

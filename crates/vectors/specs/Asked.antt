@@ -1,5 +1,5 @@
 -- What words ask of a digest. Assumes nothing.
-use Rattle.std.specs.Prelude.{ℕ, List, Some, None, Option}
+use Rattle.std.specs.Prelude.{ℕ, Some, None, Option}
 use Rattle.std.specs.List.{flat_map}
 use Rattle.std.specs.Option.{option_map}
 use Rattle.digests.specs.Hmac.{hmac_of}

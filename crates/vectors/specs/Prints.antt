@@ -1,5 +1,5 @@
 -- What lines print. Assumes nothing.
-use Rattle.std.specs.Prelude.{Bool, true, cond, List, [], ◌∷◌, ◌++◌, Some, None, codes, Option, ◌==◌}
+use Rattle.std.specs.Prelude.{Bool, true, cond, [], ◌∷◌, ◌++◌, Some, None, codes, Option, ◌==◌}
 use Rattle.std.specs.List.{flat_map}
 use Rattle.scripts.specs.Words.{Bytes}
 use Rattle.scripts.specs.Hex.{hex_text}

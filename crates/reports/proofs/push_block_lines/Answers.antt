@@ -1,10 +1,10 @@
-use Rattle.std.proofs.Common.{◌≡◌, ℕ, ◌+◌, List, [], ◌++◌, length, get_or, string_bytes, codes, decimal, sym, refl, ap, ◌∙◌, append_assoc, arith}
+use Rattle.std.proofs.Common.{◌≡◌, ℕ, ◌+◌, [], ◌++◌, get_or, string_bytes, sym, refl, ap, ◌∙◌, append_assoc, arith}
 use Rattle.std.proofs.lemmas.List.{append-nil}
 use Rattle.sheets.specs.Blocks.{blocks_of}
-use Rattle.reports.specs.Reports.{newline, sheet_report, block_line}
+use Rattle.reports.specs.Reports.{block_line}
 use Rattle.reports.proofs.Rows.{found, lines_from, lines_more, lines_all}
 use Rattle.reports.proofs.push_block_lines.Goals as goal
-use Rattle.reports.proofs.push_block_lines.Goals.{in-Ok+in-ok-push-line, in-default}
+use Rattle.reports.proofs.push_block_lines.Goals.{in-Ok+in_ok-push_line, in_default}
 
 pub loop-index-init : goal.loop-index-init
 loop-index-init c = refl
@@ -16,14 +16,14 @@ loop-index-preserved c =
     let there = found bs i (omega arith) in
     let old = string_bytes c.loop-index.report in
     elim c.match-block.branch [
-      | in-Ok+in-ok-push-line w ↦
+      | in-Ok+in_ok-push_line w ↦
           let read : w.in-Ok.block.now ≡ get_or bs i [] = let e = w.in-Ok.ensures in cc in
           let pushed : string_bytes c.match-block.report ≡ old ++ block_line (i + 1) (get_or bs i [])
-          = ap string_bytes w.report-is ∙ w.in-ok-push-line.ensures ∙ ap (λ b. old ++ block_line (i + 1) b) read in
+          = ap string_bytes w.report-is ∙ w.in_ok-push_line.ensures ∙ ap (λ b. old ++ block_line (i + 1) b) read in
           ap (λ t. t ++ lines_from (i + 1) bs) pushed
           ∙ append_assoc old (block_line (i + 1) (get_or bs i [])) (lines_from (i + 1) bs)
           ∙ ap (λ t. old ++ t) (sym (lines_more bs i (omega arith))) ∙ c.loop-index.invariant
-      | in-default w ↦ let e = w.in-default.ensures in let z : ◌≡◌ {A = ℕ} 0 1 = cc in absurd (omega arith)
+      | in_default w ↦ let e = w.in_default.ensures in let z : ◌≡◌ {A = ℕ} 0 1 = cc in absurd (omega arith)
     ]
 
 pub returns : goal.returns

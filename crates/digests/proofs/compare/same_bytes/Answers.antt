@@ -1,4 +1,4 @@
-use Rattle.std.proofs.Common.{◌≡◌, sym, ◌∙◌, arith}
+use Rattle.std.proofs.Common.{sym, ◌∙◌, arith}
 use Rattle.digests.proofs.Same.{same_length, same_more, same_all}
 use Rattle.digests.proofs.compare.same_bytes.Goals as goal
 

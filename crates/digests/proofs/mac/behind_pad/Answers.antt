@@ -1,4 +1,4 @@
-use Rattle.std.proofs.Common.{ℕ, []}
+use Rattle.std.proofs.Common.{[]}
 use Rattle.digests.proofs.Pads.{pad_part}
 use Rattle.digests.proofs.mac.behind_pad.Goals as goal
 

@@ -1,4 +1,4 @@
-use Rattle.std.proofs.Common.{◌≡◌, ℕ, ◌≤◌, Some, None, sym, refl, ap, ◌∙◌, inl, inr, arith}
+use Rattle.std.proofs.Common.{◌≡◌, ℕ, ◌≤◌, Some, None, sym, refl, ◌∙◌, inr, arith}
 use Rattle.answers.specs.declared.Refusal.TheVariants.{NoSuchParameter}
 use Rattle.families.specs.Any.{any_shape}
 use Rattle.families.specs.Choice.{numbered_shape, pairs, first_fit, Chosen, NothingFits}

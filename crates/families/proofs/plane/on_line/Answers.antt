@@ -1,4 +1,4 @@
-use Rattle.std.proofs.Common.{◌≡◌, ◌-◌, sym, ◌∙◌, arith}
+use Rattle.std.proofs.Common.{◌-◌, sym, ◌∙◌, arith}
 use Rattle.families.specs.PlaneLaw.{on_line}
 use Rattle.families.proofs.plane.on_line.Goals as goal
 

@@ -1,4 +1,4 @@
-use Rattle.std.proofs.Common.{◌≡◌, ℕ, suc, ◌-◌, ◌/◌, ◌%◌, sym, ap, ◌∙◌, ap₂, arith}
+use Rattle.std.proofs.Common.{◌≡◌, suc, ◌-◌, ◌/◌, ◌%◌, sym, ap, ◌∙◌, ap₂, arith}
 use Rattle.families.specs.Polynomial.{digits, value}
 use Rattle.families.proofs.polynomial.+value_at.Goals as goal
 

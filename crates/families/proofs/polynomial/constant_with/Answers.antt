@@ -1,4 +1,4 @@
-use Rattle.std.proofs.Common.{◌≡◌, ℕ, ◌-◌, sym, ap, ◌∙◌, subst}
+use Rattle.std.proofs.Common.{◌-◌, sym, ap, ◌∙◌, subst}
 use Rattle.families.specs.Polynomial.{digits, Only}
 use Rattle.families.proofs.PolynomialRows.{only_constant}
 use Rattle.families.proofs.polynomial.constant_with.Goals as goal

@@ -1,6 +1,6 @@
-use Rattle.std.proofs.Common.{◌≡◌, ℕ, List, ◌++◌, sym, refl, ap, ◌∙◌}
+use Rattle.std.proofs.Common.{ℕ, List, ◌++◌, ap, ◌∙◌}
 use Rattle.sha256.specs.declared.schedule.Words.{Words}
-use Rattle.sha256.specs.Sha256.{K0, K1, K2, K3, added, rounds}
+use Rattle.sha256.specs.Sha256.{K1, K2, K3, added, rounds}
 use Rattle.sha256.proofs.Blocks.{compressed_is}
 use Rattle.sha256.proofs.block.compress.Goals as goal
 

@@ -1,4 +1,4 @@
-use Rattle.std.proofs.Common.{◌≡◌, refl}
+use Rattle.std.proofs.Common.{refl}
 use Rattle.sha256.specs.Sha256.{words}
 use Rattle.sha256.proofs.block.load.Goals as goal
 

@@ -1,4 +1,4 @@
-use Rattle.std.proofs.Common.{◌≡◌, ◌++◌, take, vec_items, ap, ◌∙◌, subst, arith}
+use Rattle.std.proofs.Common.{◌++◌, take, vec_items, ap, ◌∙◌, subst, arith}
 use Rattle.std.specs.List.{flat_map}
 use Rattle.std.proofs.lemmas.List.{take_all}
 use Rattle.vectors.proofs.Taken.{taken}

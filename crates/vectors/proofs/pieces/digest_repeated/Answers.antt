@@ -8,10 +8,10 @@ loop-turn-init g c = subst (λ bs. g.D.Digest.took c.start-digest.result bs) (re
 
 pub loop-turn-preserved : goal.loop-turn-preserved
 loop-turn-preserved g c =
-    subst (λ bs. g.D.Digest.took c.take.new.self bs) (repeated_more c.loop-turn.-turn c.args.piece.now)
+    subst (λ bs. g.D.Digest.took c.take.new.self bs) (repeated_more c.loop-turn._turn c.args.piece.now)
     (c.take.ensures _ c.loop-turn.invariant)
 
 pub returns : goal.returns
 returns g c =
-    let end : c.loop-turn.-turn ≡ c.args.count = omega arith in
+    let end : c.loop-turn._turn ≡ c.args.count = omega arith in
     c.end.ensures _ c.loop-turn.invariant ∙ ap (λ n. g.D.Digest.digest (repeated n c.args.piece.now)) end

@@ -1,4 +1,4 @@
-use Rattle.std.proofs.Common.{◌≡◌, Some, None, Option, sym, ap, ◌∙◌}
+use Rattle.std.proofs.Common.{◌≡◌, Some, None, Option, ap, ◌∙◌}
 use Rattle.std.specs.Option.{option_map}
 use Rattle.std.proofs.lemmas.Result.{IfOk-weaker}
 use Rattle.scripts.specs.Words.{Bytes, first_word, behind_word}
@@ -13,11 +13,11 @@ says line word rest verb w r v = ap (λ t. answer_if t rest) v ∙ ap (λ t. ans
 
 pub returns-in-Some : goal.returns-in-Some
 returns-in-Some c =
-    let rest = option_map (λ x. x.now) c.split-word.result.1 in
+    let rest = option_map (λ x. x.now) c.split_word.result.1 in
     let verb = c.in-Some.verb in
-    let said = says c.args.line.now c.split-word.result.0.now rest (Some verb) c.split-word.ensures.word c.split-word.ensures.rest c.in-Some.ensures in
+    let said = says c.args.line.now c.split_word.result.0.now rest (Some verb) c.split_word.ensures.word c.split_word.ensures.rest c.in-Some.ensures in
     IfOk-weaker c.answer.result (λ o. o ≡ verb_answer verb rest) (λ o. o ≡ line_answer c.args.line.now) (λ _ e. e ∙ said) c.answer.ensures
 
 pub returns-in-None : goal.returns-in-None
 returns-in-None c =
-    says c.args.line.now c.split-word.result.0.now (option_map (λ x. x.now) c.split-word.result.1) None c.split-word.ensures.word c.split-word.ensures.rest c.in-None.ensures
+    says c.args.line.now c.split_word.result.0.now (option_map (λ x. x.now) c.split_word.result.1) None c.split_word.ensures.word c.split_word.ensures.rest c.in-None.ensures

@@ -1,4 +1,4 @@
-use Rattle.std.proofs.Common.{◌≡◌, suc, ◌+◌, ◌%◌, ◌^◌, false, length, sym, ap, ◌∙◌, arith, length-append}
+use Rattle.std.proofs.Common.{suc, ◌+◌, ◌%◌, ◌^◌, false, sym, ap, ◌∙◌, arith, length-append}
 use Rattle.blake2s.specs.Blake2s.{chained, compressed}
 use Rattle.blake2s.specs.Chains.{counts, chained_more}
 use Rattle.blake2s.proofs.chain.ChainCompressor.absorb.Goals as goal

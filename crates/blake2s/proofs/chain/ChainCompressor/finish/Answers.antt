@@ -1,4 +1,4 @@
-use Rattle.std.proofs.Common.{◌≡◌, ◌+◌, ◌%◌, ◌^◌, true, length, ap, ◌∙◌}
+use Rattle.std.proofs.Common.{◌+◌, ◌%◌, ◌^◌, true, length, ap, ◌∙◌}
 use Rattle.std.specs.List.{flat_map}
 use Rattle.blake2s.specs.Blake2s.{chained, compressed, filled, bytes_of}
 use Rattle.blake2s.specs.Chains.{counts, blake2s_last}

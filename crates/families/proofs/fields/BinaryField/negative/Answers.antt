@@ -1,4 +1,4 @@
-use Rattle.std.proofs.Common.{ℕ, ◌%◌, ◌^◌, ◌<◌, sym, ap, ◌∙◌, subst, mod-lt, pow_pos}
+use Rattle.std.proofs.Common.{◌%◌, ◌^◌, ◌<◌, sym, ap, ◌∙◌, subst, mod-lt, pow_pos}
 use native.Mathlib.Nat.{mod-mod}
 use lib.Bits.{bit_xor, xor_self}
 use Rattle.families.proofs.fields.BinaryField.negative.Goals as goal

@@ -1,5 +1,5 @@
 use Rattle.std.proofs.Common.{◌≤◌, ap, ◌∙◌, arith}
-use Rattle.families.specs.Halves.{halves_held, halves_rows}
+use Rattle.families.specs.Halves.{halves_held}
 use Rattle.families.specs.HalvesLaw.{rows_range}
 use Rattle.families.proofs.Ranks.{ranked_bit}
 use Rattle.families.proofs.halves.Halves.has_one.Goals as goal

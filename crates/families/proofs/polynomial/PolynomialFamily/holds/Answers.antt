@@ -1,4 +1,4 @@
-use Rattle.std.proofs.Common.{◌≡◌, ℕ, ◌-◌, ◌/◌, ◌%◌, eqb, sym, ap, ◌∙◌, ap₂, arith}
+use Rattle.std.proofs.Common.{ℕ, ◌-◌, ◌/◌, ◌%◌, eqb, sym, ap, ◌∙◌, arith}
 use Rattle.families.specs.Polynomial.{digits, value}
 use Rattle.families.proofs.PolynomialRows.{holds_at}
 use Rattle.families.proofs.polynomial.PolynomialFamily.holds.Goals as goal

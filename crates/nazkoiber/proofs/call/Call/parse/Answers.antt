@@ -12,11 +12,11 @@ says line word rest verb w r v = ap (λ t. told_if (verb_of t) (behind_word line
 
 pub returns-in-Some : goal.returns-in-Some
 returns-in-Some c =
-    let rest = option_map (λ x. x.now) c.split-word.result.1 in
-    let said = says c.args.line.now c.split-word.result.0.now rest (Some c.in-Some.verb) c.split-word.ensures.word c.split-word.ensures.rest c.in-Some.ensures in
-    subst (λ t. Reads told t c.parse-rest.result) (sym said) c.parse-rest.ensures
+    let rest = option_map (λ x. x.now) c.split_word.result.1 in
+    let said = says c.args.line.now c.split_word.result.0.now rest (Some c.in-Some.verb) c.split_word.ensures.word c.split_word.ensures.rest c.in-Some.ensures in
+    subst (λ t. Reads told t c.parse_rest.result) (sym said) c.parse_rest.ensures
 
 pub returns-in-None : goal.returns-in-None
 returns-in-None c =
-    let rest = option_map (λ x. x.now) c.split-word.result.1 in
-    says c.args.line.now c.split-word.result.0.now rest None c.split-word.ensures.word c.split-word.ensures.rest c.in-None.ensures
+    let rest = option_map (λ x. x.now) c.split_word.result.1 in
+    says c.args.line.now c.split_word.result.0.now rest None c.split_word.ensures.word c.split_word.ensures.rest c.in-None.ensures

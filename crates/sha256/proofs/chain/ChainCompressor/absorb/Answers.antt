@@ -1,4 +1,4 @@
-use Rattle.std.proofs.Common.{◌≡◌, ◌+◌, ◌%◌, ◌++◌, length, ap, ◌∙◌, arith, length-append}
+use Rattle.std.proofs.Common.{ap, ◌∙◌, arith, length-append}
 use Rattle.sha256.specs.Sha256.{compressed}
 use Rattle.sha256.specs.Hashed.{block_more}
 use Rattle.sha256.proofs.chain.ChainCompressor.absorb.Goals as goal

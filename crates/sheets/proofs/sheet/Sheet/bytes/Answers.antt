@@ -1,4 +1,4 @@
-use Rattle.std.proofs.Common.{◌≡◌, sym, ◌∙◌, arith}
+use Rattle.std.proofs.Common.{sym, ◌∙◌, arith}
 use Rattle.sheets.proofs.Known.{size_is}
 use Rattle.sheets.proofs.sheet.Sheet.bytes.Goals as goal
 

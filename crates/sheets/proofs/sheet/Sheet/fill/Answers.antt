@@ -1,4 +1,4 @@
-use Rattle.std.proofs.Common.{◌≡◌, true, ◌++◌, length, is_ok, vec_items, vec_len, sym, refl, ap, ◌∙◌, zero-add, arith}
+use Rattle.std.proofs.Common.{◌≡◌, true, ◌++◌, length, is_ok, vec_items, vec_len, refl, ap, ◌∙◌, zero-add, arith}
 use Rattle.std.proofs.lemmas.Bool.{cond-true}
 use Rattle.sheets.specs.Table.{pieces, rises, line_ends}
 use Rattle.sheets.specs.Blocks.{blocks_of}

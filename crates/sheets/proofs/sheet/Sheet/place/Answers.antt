@@ -1,4 +1,4 @@
-use Rattle.std.proofs.Common.{◌≡◌, ◌+◌, ◌-◌, length, sym, refl, ap, ◌∙◌, arith}
+use Rattle.std.proofs.Common.{refl, arith}
 use Rattle.sheets.specs.Blocks.{blocks_of}
 use Rattle.sheets.proofs.Known.{total_after}
 use Rattle.sheets.proofs.Tells.{block_allows, rewrite_full, rewrite_ok}

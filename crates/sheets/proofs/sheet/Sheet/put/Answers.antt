@@ -1,4 +1,4 @@
-use Rattle.std.proofs.Common.{◌≡◌, ◌+◌, ◌-◌, length, set, vec_items, vec_len, sym, ap, ◌∙◌, arith}
+use Rattle.std.proofs.Common.{◌-◌, length, vec_items, ap, ◌∙◌, arith}
 use Rattle.sheets.specs.Table.{pieces, moved}
 use Rattle.sheets.specs.Blocks.{blocks_of}
 use Rattle.sheets.proofs.Known.{size_is, short, total_after, room_behind, whole_moved, blocks_after}

@@ -1,4 +1,4 @@
-use Rattle.std.proofs.Common.{◌≡◌, length, sym, ap, ◌∙◌, arith}
+use Rattle.std.proofs.Common.{length, ap, arith}
 use Rattle.sheets.proofs.Lines.{length_lines, line_ends_yes, line_ends_no, line_ends_all}
 use Rattle.sheets.proofs.sheet.edits.count_lines.Goals as goal
 use Rattle.sheets.proofs.sheet.edits.count_lines.Goals.{then-ends_line, else-ends_line}

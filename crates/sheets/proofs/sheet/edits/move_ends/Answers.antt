@@ -1,4 +1,4 @@
-use Rattle.std.proofs.Common.{◌≡◌, ℕ, ◌+◌, ◌-◌, ◌<◌, length, set, vec_items, sym, refl, ap, ◌∙◌, arith}
+use Rattle.std.proofs.Common.{◌+◌, ◌-◌, ◌<◌, length, set, vec_items, sym, refl, ap, ◌∙◌, arith}
 use Rattle.sheets.specs.Table.{moved}
 use Rattle.sheets.proofs.Moved.{length_moved, moved_at, moved_none, over_more, over_all, over_read}
 use Rattle.sheets.proofs.sheet.edits.move_ends.Goals as goal

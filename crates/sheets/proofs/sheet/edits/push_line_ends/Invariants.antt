@@ -1,4 +1,4 @@
-use Rattle.std.proofs.Common.{◌≡◌, ◌+◌, ◌++◌, length, drop, vec_items, vec_len, vec_capacity}
+use Rattle.std.proofs.Common.{◌≡◌, ◌++◌, drop, vec_items, vec_capacity}
 use Rattle.sheets.specs.Table.{line_ends}
 use Rattle.sheets.proofs.sheet.edits.push_line_ends.Given as goal
 

@@ -1,6 +1,6 @@
-use Rattle.std.proofs.Common.{◌≡◌, ◌-◌, ◌≤◌, true, ◌++◌, length, take, drop, is_ok, vec_items, vec_len, sym, ap, ◌∙◌, arith}
+use Rattle.std.proofs.Common.{◌≡◌, ◌≤◌, true, ◌++◌, length, take, drop, is_ok, vec_items, vec_len, ap, ◌∙◌, arith}
 use Rattle.std.proofs.lemmas.Bool.{cond-true}
-use Rattle.sheets.proofs.Turned.{turned, cut, turned_back}
+use Rattle.sheets.proofs.Turned.{cut, turned_back}
 use Rattle.sheets.proofs.sheet.edits.replace.Goals as goal
 
 pub returns : goal.returns
