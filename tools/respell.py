@@ -3,9 +3,10 @@
 
 usage: python3 tools/respell.py [TOP]    once, at the top of a checkout (or in TOP), right behind the kit's port.py
 
-It goes by text: names that .antt files declare with a dash, whole words alone, in .antt files, in the clauses of .rt
-files, in must-fail edits, and between backticks in the pages. Goals and steps, whose names Rattle makes, functions of
-src/, strings and file names stay. It stops, with nothing written, where two names would fall together.
+It goes by text: names that .antt files declare with a dash, and traits' ghost members with a capital inside, whole
+words alone, in .antt files, in the clauses of .rt files, in must-fail edits, and between backticks in the pages. Goals
+and steps, whose names Rattle makes, functions of src/, strings and file names stay. It stops, with nothing written,
+where two names would fall together.
 """
 
 import os
@@ -14,6 +15,7 @@ import sys
 
 WORD = re.compile(r"[A-Za-z_][A-Za-z0-9_'₀-₉-]*")
 DECLARED = re.compile(r"^\s*(?:(?:abbrev|unfoldable|pub|record|data|ruleset)\s+)*([A-Za-z][A-Za-z0-9_'-]*)\s+(?:\(.*\)\s+|\{.*\}\s+)*:(?!:)")
+MEMBER = re.compile(r"^\s*(?:ghost|law) ([a-z]+[A-Z][A-Za-z0-9]*)\b")
 MADE = re.compile(r":\s*(?:goal|need|given|needs)\.")
 SKIPPED = ("out", ".git", "target", "__pycache__")
 
@@ -31,9 +33,14 @@ def read(path):
 
 
 def declared(top):
-    """The names with a dash that the .antt files declare, but for answers to goals."""
+    """The names with a dash that the .antt files declare, but for answers to goals, and ghost members in camel case."""
     found = set()
     for path in files(os.path.join(top, "crates")):
+        if path.endswith(".rt"):
+            for line in read(path).splitlines():
+                m = MEMBER.match(line)
+                if m:
+                    found.add(m[1])
         if path.endswith(".antt"):
             for line in read(path).splitlines():
                 m = DECLARED.match(line)
@@ -45,7 +52,7 @@ def declared(top):
 def respelled(name):
     if name[0].isupper():
         return "".join(part[:1].upper() + part[1:] for part in name.split("-"))
-    return name.replace("-", "_")
+    return re.sub(r"[A-Z]", lambda m: "_" + m[0].lower(), name).replace("-", "_")
 
 
 def ghost_parts(text, turn):
