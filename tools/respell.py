@@ -95,6 +95,7 @@ def main():
         return WORD.sub(lambda w: names.get(w[0]) or (respelled(w[0]) if "-" in w[0] and respelled(w[0]) in present else w[0]), m[0])
 
     changed = 0
+    alias = "AllByRecursion as All}"
     for path, text in texts.items():
         if path.endswith(".antt"):
             new = "\n".join(part if part.lstrip().startswith("--") and "`" not in part else turn(part) for part in text.split("\n"))
@@ -102,6 +103,8 @@ def main():
             new = re.sub(r"`[^`\n]*`", spoken, text)
         else:
             new = ghost_parts(text, turn)
+        if path.endswith(".antt") and alias in new:  # the library's All is another word now
+            new = re.sub(r"(?<![\w.-])All(?![\w-])", "AllByRecursion", new.replace(alias, "AllByRecursion}"))
         if new != text:
             changed += 1
             with open(path, "w", encoding="utf-8") as f:

@@ -22,19 +22,19 @@ impl Digest for Blake2s {
 
     const BLOCK: usize = 64;
 
-    ghost kindOf = { 2 };
+    ghost kind_of = { 2 };
 
-    ghost blockOf = { 64 };
+    ghost block_of = { 64 };
 
     ghost digest = { blake2s };
 
     ghost took = { λ s bs. Took Absorbed s.0.inner (take s.0.count s.0.held) bs };
 
-    ghost kindRange = { Prim.search rules };
+    ghost kind_range = { Prim.search rules };
 
-    ghost blockRange = { Prim.search rules };
+    ghost block_range = { Prim.search rules };
 
-    ghost thirtyTwo = { blake2s_length };
+    ghost thirty_two = { blake2s_length };
 
     fn kind_byte() -> u8 {
         Self::KIND

@@ -23,7 +23,7 @@ pub trait Compressor: Sized {
         requires { length last.now ≤ 64 }
         ensures { (bs : Bytes) → absorbed self bs → (1 ≤ length last.now) ⊎ (bs ≡ []) → result ≡ digest (bs ++ last.now) };
 
-    ghost thirtyTwo: { (bs : Bytes) → length (digest bs) ≡ 32 };
+    ghost thirty_two: { (bs : Bytes) → length (digest bs) ≡ 32 };
 }
 
 // A compressor with the bytes that it has not absorbed yet. A full block waits until more bytes come, since it may be the last.

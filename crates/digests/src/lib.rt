@@ -21,9 +21,9 @@ pub trait Digest: Sized {
     const BLOCK: usize;
 
     // What the two constants are, for contracts: no clause can name a constant of a bound.
-    ghost kindOf: { ℕ };
+    ghost kind_of: { ℕ };
 
-    ghost blockOf: { ℕ };
+    ghost block_of: { ℕ };
 
     // The answer to all bytes taken.
     ghost digest: { Bytes → Bytes };
@@ -33,10 +33,10 @@ pub trait Digest: Sized {
 
     // Each `impl` answers its constant here; generic code reads them by these two.
     fn kind_byte() -> u8
-        ensures { result ≡ kindOf };
+        ensures { result ≡ kind_of };
 
     fn block_len() -> usize
-        ensures { result ≡ blockOf };
+        ensures { result ≡ block_of };
 
     fn start() -> Self
         ensures { took result [] };
@@ -47,11 +47,11 @@ pub trait Digest: Sized {
     fn end(self) -> [u8; 32]
         ensures { (bs : Bytes) → took self bs → result ≡ digest bs };
 
-    ghost kindRange: { (1 ≤ kindOf) × (kindOf ≤ 255) };
+    ghost kind_range: { (1 ≤ kind_of) × (kind_of ≤ 255) };
 
-    ghost blockRange: { (32 ≤ blockOf) × (blockOf ≤ 64) };
+    ghost block_range: { (32 ≤ block_of) × (block_of ≤ 64) };
 
-    ghost thirtyTwo: { (bs : Bytes) → length (digest bs) ≡ 32 };
+    ghost thirty_two: { (bs : Bytes) → length (digest bs) ≡ 32 };
 }
 
 // The digest of some pieces is that of their joining.

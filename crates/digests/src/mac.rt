@@ -9,7 +9,7 @@ const INNER: u8 = 0x36;
 const OUTER: u8 = 0x5c;
 
 pub fn hmac<D: Digest>(key: &[u8; 32], text: &[u8]) -> [u8; 32]
-    ensures { result ≡ hmac_of D.Digest.digest D.Digest.blockOf key.now text.now }
+    ensures { result ≡ hmac_of D.Digest.digest D.Digest.block_of key.now text.now }
 {
     let inner = behind_pad::<D>(key, INNER, text);
     behind_pad::<D>(key, OUTER, &inner)
@@ -17,7 +17,7 @@ pub fn hmac<D: Digest>(key: &[u8; 32], text: &[u8]) -> [u8; 32]
 
 // The digest of a text behind the padded key.
 fn behind_pad<D: Digest>(key: &[u8; 32], mask: u8, text: &[u8]) -> [u8; 32]
-    ensures { result ≡ D.Digest.digest (padded mask D.Digest.blockOf key.now ++ text.now) }
+    ensures { result ≡ D.Digest.digest (padded mask D.Digest.block_of key.now ++ text.now) }
 {
     let pad = masked(key, mask);
     let block = D::block_len();

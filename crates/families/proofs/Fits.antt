@@ -1,6 +1,6 @@
 -- The first pair that fits.
 use Rattle.std.proofs.Common.{◌≡◌, ℕ, zero, suc, ◌+◌, ◌^◌, ◌<◌, ◌≤◌, true, false, not, eqb, leb, List, [], ◌∷◌, ◌++◌, length, get_or, drop, is_some, Some, None, Ok, Err, Option, Result, unwrap_or, sym, refl, ap, ◌∙◌, subst, inl, inr, append_assoc, arith}
-use Rattle.std.specs.List.{AllByRecursion as All}
+use Rattle.std.specs.List.{AllByRecursion}
 use Rattle.std.proofs.ByRecursion.{All-append}
 use Rattle.std.proofs.lemmas.Bool.{cases_Bool, cond-true, cond-false, and_parts, leb-true, eq-eqb, ne_eqb}
 use Rattle.std.proofs.lemmas.Bool.Decides.{nat_tests}
@@ -47,7 +47,7 @@ fit_none n d (suc i) (p ∷ ps) h = fit_none n d i ps (omega arith)
 abbrev pub Small : Pair → Type 0
 Small p = (1 ≤ p.0) × (p.0 ≤ 16) × (2 ≤ p.1) × (p.1 ≤ 4) × (among p.0 orders ≡ true) × (among p.1 coefficient_counts ≡ true)
 
-pub all_small : All Small pairs
+pub all_small : AllByRecursion Small pairs
 all_small = (
   at 5 2 refl refl,
   (
@@ -90,7 +90,7 @@ all_small = (
     at q k e f = let r = offered_range q e in let s = degree_range k f in (omega (arith, r.0), r.1, s.0, s.1, e, f)
 
 -- the first that fits stands behind pairs that fail
-found_at : (n d : ℕ) (ps before : List Pair) (p : Pair) → pairs ≡ before ++ ps → All (λ o. fits n d o ≡ false) before → All Small ps → first_fit n d ps ≡ Some p
+found_at : (n d : ℕ) (ps before : List Pair) (p : Pair) → pairs ≡ before ++ ps → AllByRecursion (λ o. fits n d o ≡ false) before → AllByRecursion Small ps → first_fit n d ps ≡ Some p
     → FirstFit n d p × Small p
 unfolding first_fit
 found_at n d [] before p all fails small e = let z : ◌≡◌ {A = ℕ} 0 1 = cc in absurd (omega arith)
@@ -108,7 +108,7 @@ found_at n d (x ∷ xs) before p all fails small e =
 pub found : (n d : ℕ) (p : Pair) → Some p ≡ first_fit n d pairs → FirstFit n d p × Small p
 found n d p e = found_at n d pairs [] p refl tt all_small (sym e)
 
-none_fits : (n d : ℕ) (ps : List Pair) → first_fit n d ps ≡ None → All (λ p. fits n d p ≡ false) ps
+none_fits : (n d : ℕ) (ps : List Pair) → first_fit n d ps ≡ None → AllByRecursion (λ p. fits n d p ≡ false) ps
 unfolding first_fit
 none_fits n d [] e = tt
 none_fits n d (x ∷ xs) e =

@@ -1,7 +1,7 @@
 -- Families by number, and which one is chosen. Assumes nothing.
 use Rattle.std.specs.Prelude.{◌≡◌, ℕ, ◌^◌, Bool, true, false, cond, not, ◌&&◌, ◌⊎◌, List, [], ◌∷◌, ◌++◌, is_some, Some, None, Option, Result, ◌==◌, ◌≢◌, nat_le}
 use Rattle.std.specs.Option.{unwrap_or, option_map}
-use Rattle.std.specs.List.{AllByRecursion as All}
+use Rattle.std.specs.List.{AllByRecursion}
 use Rattle.answers.specs.declared.Refusal.{Refusal}
 use Rattle.answers.specs.declared.Refusal.TheVariants.{BadBlockCount, NoSuchParameter}
 use Rattle.answers.specs.Refusals.{unless}
@@ -67,7 +67,7 @@ pub record FirstFit (n d : ℕ) (p : ℕ × ℕ) : Type 0 where
   pub earlier : List (ℕ × ℕ)
   pub later : List (ℕ × ℕ)
   pub offered : pairs ≡ earlier ++ p ∷ later
-  pub fails_earlier : All (λ o. fits n d o ≡ false) earlier
+  pub fails_earlier : AllByRecursion (λ o. fits n d o ≡ false) earlier
   pub fits_here : fits n d p ≡ true
 
 -- the choice said without the call: which family it is, or that no pair fits
@@ -75,4 +75,4 @@ abbrev pub Chosen : ℕ → ℕ → Shape → Type 0
 Chosen n d s = ((d ≡ 1) × (s ≡ halves_shape n)) ⊎ ((d ≢ 1) × (s ≡ numbered_shape s.q s.k n) × FirstFit n d (s.q, s.k))
 
 abbrev pub NothingFits : ℕ → ℕ → Type 0
-NothingFits n d = (d ≢ 1) × All (λ p. fits n d p ≡ false) pairs
+NothingFits n d = (d ≢ 1) × AllByRecursion (λ p. fits n d p ≡ false) pairs

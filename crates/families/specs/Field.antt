@@ -1,6 +1,6 @@
 -- A field on the numbers below q. The arguments of sum and product are reduced by q.
 use Rattle.std.specs.Prelude.{◌≡◌, ℕ, zero, suc, ◌+◌, ◌*◌, ◌/◌, ◌%◌, ◌^◌, ◌<◌, ◌≤◌, cond, not, List, [], ◌∷◌, ◌++◌, map, Result, ◌==◌, bit_xor}
-use Rattle.std.specs.List.{AllByRecursion as All}
+use Rattle.std.specs.List.{AllByRecursion}
 use Rattle.answers.specs.declared.Refusal.{Refusal}
 use Rattle.answers.specs.declared.Refusal.TheVariants.{NoSuchParameter}
 use Rattle.answers.specs.Refusals.{unless}
@@ -48,7 +48,7 @@ abbrev pub mod_product : ℕ → ℕ → ℕ → ℕ
 mod_product q a b = (a * b) % q
 
 abbrev pub PrimeFields : Type 0
-PrimeFields = All (λ q. FieldLaws q (mod_sum q) (mod_product q)) (5 ∷ 7 ∷ 11 ∷ 13 ∷ [])
+PrimeFields = AllByRecursion (λ q. FieldLaws q (mod_sum q) (mod_product q)) (5 ∷ 7 ∷ 11 ∷ 13 ∷ [])
 
 -- Binary fields: bit i of a number is the coefficient of x^i. The product of a and b, by the k lowest bits of b
 abbrev pub bits_times : ℕ → ℕ → ℕ → ℕ
@@ -77,4 +77,4 @@ modulus e = cond (e == 3) 0b1011 0b10011
 -- the degree of the modulus, and the modulus
 abbrev pub BinaryFields : Type 0
 BinaryFields =
-    All {X = ℕ × ℕ} (λ f. FieldLaws (2 ^ f.0) (binary_sum f.0) (binary_product f.0 f.1)) ((3, 0b1011) ∷ (4, 0b10011) ∷ [])
+    AllByRecursion {X = ℕ × ℕ} (λ f. FieldLaws (2 ^ f.0) (binary_sum f.0) (binary_product f.0 f.1)) ((3, 0b1011) ∷ (4, 0b10011) ∷ [])

@@ -3,7 +3,7 @@ use Rattle.std.specs.Prelude.{◌≡◌, ℕ, zero, suc, ◌+◌, ◌-◌, ◌*�
 use Rattle.std.proofs.Common.{sym, ap, ◌∙◌, mod-lt, div-lt_iff_lt-mul, div-mul-le_self, mul-le-mul_right, pow-suc, mul-zero, le_trans, arith}
 use Rattle.std.proofs.Math.Nat.{div-add-mod, pow-zero}
 use Rattle.std.proofs.Math.Arith.{digits_lt, digits_div, digits_mod}
-use Rattle.std.specs.List.{AllByRecursion as All}
+use Rattle.std.specs.List.{AllByRecursion}
 use Rattle.std.proofs.lemmas.Bool.{or_parts, eqb-false, eq-eqb, ne_eqb}
 use Rattle.families.specs.Numbers.{count}
 use Rattle.families.specs.Family.{Beside, NoneIn, CoverFree}
@@ -17,7 +17,7 @@ digits_length : (q k j : ℕ) → length (digits q k j) ≡ k
 digits_length q zero j = refl
 digits_length q (suc k) j = ap suc (digits_length q k (j / q))
 
-digits_below : (q k j : ℕ) → 0 < q → All (λ c. c < q) (digits q k j)
+digits_below : (q k j : ℕ) → 0 < q → AllByRecursion (λ c. c < q) (digits q k j)
 digits_below q zero j h = tt
 digits_below q (suc k) j h = (mod-lt j h, digits_below q k (j / q) h)
 

@@ -2,7 +2,7 @@
 use Rattle.std.specs.Prelude.{◌≡◌, ℕ, ◌+◌, ◌-◌, ◌*◌, ◌/◌, ◌%◌, ◌<◌, ◌≤◌, Bool, true, false, ◌||◌, List, [], ◌∷◌, ◌==◌, nat_eq, refl}
 use Rattle.std.proofs.Common.{sym, ap, ◌∙◌, inl, inr, add_comm, add_assoc, zero-add, mul_comm, mul_assoc, mul-add, mul_left_comm, one-mul, mod-lt, mod-eq_of_lt, arith}
 use Rattle.std.proofs.Math.Nat.{mod_self, mod-add-mod, add-mod-mod, add-mod, div-add-mod, mul-add-mod_self_left}
-use Rattle.std.specs.List.{AllByRecursion as All}
+use Rattle.std.specs.List.{AllByRecursion}
 use Rattle.std.proofs.lemmas.Bool.{both_ways, or_cases, eqb-true}
 use Rattle.families.specs.Numbers.{some, among}
 use Rattle.families.specs.Field.{FieldLaws, mod_sum, mod_product, PrimeFields}
@@ -55,7 +55,7 @@ pub prime_fields : PrimeFields
 prime_fields =
     (modulo_field 5 (omega arith) refl, (modulo_field 7 (omega arith) refl, (modulo_field 11 (omega arith) refl, (modulo_field 13 (omega arith) refl, tt))))
 
-pub all_among : (P : ℕ → Type 0) (xs : List ℕ) → All P xs → (i : ℕ) → among i xs ≡ true → P i
+pub all_among : (P : ℕ → Type 0) (xs : List ℕ) → AllByRecursion P xs → (i : ℕ) → among i xs ≡ true → P i
 all_among P [] h i e = absurd (both_ways false refl e)
 all_among P (x ∷ xs) h i e =
     elim (or_cases (i == x) (among i xs) e) [

@@ -1,7 +1,7 @@
 -- A polynomial with k coefficients, not all zero, has fewer than k roots; over any field.
 use Rattle.std.specs.Prelude.{◌≡◌, ℕ, zero, suc, ◌<◌, ◌≤◌, Bool, true, ◌||◌, List, [], ◌∷◌, length, ◌==◌, ◌≢◌, nat_eq, refl}
 use Rattle.std.proofs.Common.{sym, ap, ap₂, ◌∙◌, inl, inr, arith}
-use Rattle.std.specs.List.{AllByRecursion as All}
+use Rattle.std.specs.List.{AllByRecursion}
 use Rattle.std.proofs.lemmas.Bool.{cases_Bool, cases_lt, cases_eq, or_left, or_right, eqb-true, eqb-false, eq-eqb}
 use Rattle.families.specs.Numbers.{count}
 use Rattle.families.specs.Field.{FieldLaws}
@@ -47,12 +47,12 @@ module _ (q : ℕ) (◌⊕◌ ◌⊗◌ : ℕ → ℕ → ℕ) (F : FieldLaws q 
   value_below [] a = positive
   value_below (c ∷ cs) a = F.sum_below c (a ⊗ value ◌⊕◌ ◌⊗◌ cs a)
 
-  value_zero : (cs : List ℕ) (a : ℕ) → All (λ c. c ≡ 0) cs → value ◌⊕◌ ◌⊗◌ cs a ≡ 0
+  value_zero : (cs : List ℕ) (a : ℕ) → AllByRecursion (λ c. c ≡ 0) cs → value ◌⊕◌ ◌⊗◌ cs a ≡ 0
   value_zero [] a h = refl
   value_zero (c ∷ cs) a h =
       ap₂ ◌⊕◌ h.0 (ap (λ x. a ⊗ x) (value_zero cs a h.1) ∙ product_zero a) ∙ F.zero_neutral 0 positive
 
-  head_zero : (c : ℕ) (cs : List ℕ) (r : ℕ) → c < q → All (λ d. d ≡ 0) cs → value ◌⊕◌ ◌⊗◌ (c ∷ cs) r ≡ 0 → c ≡ 0
+  head_zero : (c : ℕ) (cs : List ℕ) (r : ℕ) → c < q → AllByRecursion (λ d. d ≡ 0) cs → value ◌⊕◌ ◌⊗◌ (c ∷ cs) r ≡ 0 → c ≡ 0
   head_zero c cs r hc zeros h =
       sym (sum_zero c hc) ∙ ap (λ x. c ⊕ x) (sym (product_zero r) ∙ ap (λ x. r ⊗ x) (sym (value_zero cs r zeros))) ∙ h
 
@@ -65,11 +65,11 @@ module _ (q : ℕ) (◌⊕◌ ◌⊗◌ : ℕ → ℕ → ℕ) (F : FieldLaws q 
   quotient_length [] r = refl
   quotient_length (c ∷ cs) r = ap suc (quotient_length cs r)
 
-  quotient_below : (cs : List ℕ) (r : ℕ) → All (λ c. c < q) (quotient cs r)
+  quotient_below : (cs : List ℕ) (r : ℕ) → AllByRecursion (λ c. c < q) (quotient cs r)
   quotient_below [] r = tt
   quotient_below (c ∷ cs) r = (value_below (c ∷ cs) r, quotient_below cs r)
 
-  quotient_zero : (cs : List ℕ) (r : ℕ) → All (λ c. c < q) cs → All (λ c. c ≡ 0) (quotient cs r) → All (λ c. c ≡ 0) cs
+  quotient_zero : (cs : List ℕ) (r : ℕ) → AllByRecursion (λ c. c < q) cs → AllByRecursion (λ c. c ≡ 0) (quotient cs r) → AllByRecursion (λ c. c ≡ 0) cs
   quotient_zero [] r small h = tt
   quotient_zero (c ∷ cs) r small h =
       let zeros = quotient_zero cs r small.1 h.1 in
@@ -103,7 +103,7 @@ module _ (q : ℕ) (◌⊕◌ ◌⊗◌ : ℕ → ℕ → ℕ) (F : FieldLaws q 
       ]
 
   -- as many roots as coefficients: all coefficients are zero
-  pub all_zero : (k : ℕ) (cs : List ℕ) → length cs ≡ k → All (λ c. c < q) cs → k ≤ count (λ a. nat_eq (value ◌⊕◌ ◌⊗◌ cs a) 0) q → All (λ c. c ≡ 0) cs
+  pub all_zero : (k : ℕ) (cs : List ℕ) → length cs ≡ k → AllByRecursion (λ c. c < q) cs → k ≤ count (λ a. nat_eq (value ◌⊕◌ ◌⊗◌ cs a) 0) q → AllByRecursion (λ c. c ≡ 0) cs
   all_zero k [] len small many = tt
   all_zero zero (c ∷ cs) len small many = absurd (omega arith)
   all_zero (suc k) (c ∷ cs) len small many =
@@ -140,10 +140,10 @@ module _ (q : ℕ) (◌⊕◌ ◌⊗◌ : ℕ → ℕ → ℕ) (F : FieldLaws q 
   add_values e d x v w = simp (F.distributes, F.sum_assoc, sum_left)
 
   -- the polynomial that is the difference of two
-  differences : (k : ℕ) (cs ds : List ℕ) → length cs ≡ k → length ds ≡ k → All (λ c. c < q) cs → All (λ d. d < q) ds
-      → (es : List ℕ) × (length es ≡ k) × All (λ e. e < q) es
+  differences : (k : ℕ) (cs ds : List ℕ) → length cs ≡ k → length ds ≡ k → AllByRecursion (λ c. c < q) cs → AllByRecursion (λ d. d < q) ds
+      → (es : List ℕ) × (length es ≡ k) × AllByRecursion (λ e. e < q) es
       × ((x : ℕ) → value ◌⊕◌ ◌⊗◌ es x ⊕ value ◌⊕◌ ◌⊗◌ ds x ≡ value ◌⊕◌ ◌⊗◌ cs x)
-      × (All (λ e. e ≡ 0) es → cs ≡ ds)
+      × (AllByRecursion (λ e. e ≡ 0) es → cs ≡ ds)
   differences k [] [] lc ld sc sd = ([], lc, tt, (λ x. F.zero_neutral 0 positive), (λ z. refl))
   differences k [] (d ∷ ds) lc ld sc sd = absurd (omega arith)
   differences k (c ∷ cs) [] lc ld sc sd = absurd (omega arith)
@@ -160,7 +160,7 @@ module _ (q : ℕ) (◌⊕◌ ◌⊗◌ : ℕ → ℕ → ℕ) (F : FieldLaws q 
       )
 
   -- two polynomials that differ agree at fewer elements than they have coefficients
-  pub agree_few : (k : ℕ) (cs ds : List ℕ) → length cs ≡ k → length ds ≡ k → All (λ c. c < q) cs → All (λ d. d < q) ds → (cs ≢ ds)
+  pub agree_few : (k : ℕ) (cs ds : List ℕ) → length cs ≡ k → length ds ≡ k → AllByRecursion (λ c. c < q) cs → AllByRecursion (λ d. d < q) ds → (cs ≢ ds)
       → count (λ a. nat_eq (value ◌⊕◌ ◌⊗◌ cs a) (value ◌⊕◌ ◌⊗◌ ds a)) q < k
   agree_few k cs ds lc ld sc sd differ =
       let f : ℕ → Bool = λ a. nat_eq (value ◌⊕◌ ◌⊗◌ cs a) (value ◌⊕◌ ◌⊗◌ ds a) in

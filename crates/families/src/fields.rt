@@ -64,7 +64,7 @@ impl Field for Prime {
 
     ghost lawful = { λ f. prime_field f.q f.prime };
 
-    ghost offered = { first_of (Prim.search rules, Prim.grind (arith, Self.row.coded.inj)) };
+    ghost offered = { Prim.search rules };
 
     fn q(&self) -> u8 {
         self.q
@@ -143,7 +143,7 @@ impl Field for Binary {
 
     ghost lawful = { λ f. binary_field f.degree f.known };
 
-    ghost offered = { first_of (Prim.search rules, Prim.grind (arith, Self.row.coded.inj)) };
+    ghost offered = { Prim.search rules };
 
     fn q(&self) -> u8 {
         if self.degree == 3 { 8 } else { 16 }

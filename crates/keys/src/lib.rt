@@ -28,7 +28,7 @@ pub trait Inspector {
     fn inspect(&self, number: u32, text: &[u8], signature: &[u8]) -> bool
         ensures { result ≡ says self.now number text.now signature.now };
 
-    ghost kindRange: { (i : Self) → (1 ≤ kind i) × (kind i ≤ 255) };
+    ghost kind_range: { (i : Self) → (1 ≤ kind i) × (kind i ≤ 255) };
 }
 
 // An inspector that can also draw numbers and sign under those that it has drawn.
@@ -78,7 +78,7 @@ pub trait Sealer: Inspector {
 
     ghost genuine: { (s : Self) (number : ℕ) (text : Bytes) → number < (key s).next → Self.Inspector.says s number text (signature s number text) ≡ true };
 
-    ghost ownAlike: { (s : Self) (o : Self.Own) → owns s o → (Self.Own.Inspector.kind o ≡ Self.Inspector.kind s) × (Self.Own.Inspector.says o ≡ Self.Inspector.says s) };
+    ghost own_alike: { (s : Self) (o : Self.Own) → owns s o → (Self.Own.Inspector.kind o ≡ Self.Inspector.kind s) × (Self.Own.Inspector.says o ≡ Self.Inspector.says s) };
 }
 
 // Signs a text under the next number, and answers what the sealer's own inspector says to the signature. That is yes, for every sealer.

@@ -46,7 +46,7 @@ impl<D: Digest> TagInspector<D> {
 
     // The tag to a text: the signature that it says yes to.
     fn tag(&self, text: &[u8]) -> [u8; 32]
-        ensures { result ≡ hmac_of D.Digest.digest D.Digest.blockOf self.now.secret text.now }
+        ensures { result ≡ hmac_of D.Digest.digest D.Digest.block_of self.now.secret text.now }
     {
         hmac::<D>(&self.secret, text)
     }
@@ -55,9 +55,9 @@ impl<D: Digest> TagInspector<D> {
 impl<D: Digest> Inspector for TagInspector<D> {
     ghost kind = { λ _. 1 };
 
-    ghost says = { λ i _ text signature. tag_says D.Digest.digest D.Digest.blockOf i.secret text signature };
+    ghost says = { λ i _ text signature. tag_says D.Digest.digest D.Digest.block_of i.secret text signature };
 
-    ghost kindRange = { Prim.search rules };
+    ghost kind_range = { Prim.search rules };
 
     fn kind_byte(&self) -> u8 {
         KIND
@@ -106,9 +106,9 @@ impl<D: Digest> TagKey<D> {
 impl<D: Digest> Inspector for TagKey<D> {
     ghost kind = { λ _. 1 };
 
-    ghost says = { λ k _ text signature. tag_says D.Digest.digest D.Digest.blockOf k.inspector.secret text signature };
+    ghost says = { λ k _ text signature. tag_says D.Digest.digest D.Digest.block_of k.inspector.secret text signature };
 
-    ghost kindRange = { first_of (Prim.search rules, Prim.grind (arith, Self.row.coded.inj)) };
+    ghost kind_range = { Prim.search rules };
 
     fn kind_byte(&self) -> u8 {
         self.inspector.kind_byte()
@@ -124,17 +124,17 @@ impl<D: Digest> Sealer for TagKey<D> {
 
     ghost key = { λ k. tag_key k.name k.next };
 
-    ghost signature = { λ k _ text. hmac_of D.Digest.digest D.Digest.blockOf k.inspector.secret text };
+    ghost signature = { λ k _ text. hmac_of D.Digest.digest D.Digest.block_of k.inspector.secret text };
 
     ghost owns = { λ k o. o.secret ≡ k.inspector.secret };
 
-    ghost lawful = { first_of (Prim.search rules, Prim.grind (arith, Self.row.coded.inj)) };
+    ghost lawful = { Prim.search rules };
 
-    ghost sized = { first_of (Prim.search rules, Prim.grind (arith, Self.row.coded.inj)) };
+    ghost sized = { Prim.search rules };
 
-    ghost genuine = { λ k number text drawn. same_self (hmac_of D.Digest.digest D.Digest.blockOf k.inspector.secret text) };
+    ghost genuine = { λ k number text drawn. same_self (hmac_of D.Digest.digest D.Digest.block_of k.inspector.secret text) };
 
-    ghost ownAlike = { first_of (Prim.search rules, Prim.grind (arith, Self.row.coded.inj)) };
+    ghost own_alike = { Prim.search rules };
 
     fn key_name(&self) -> [u8; 8] {
         self.name

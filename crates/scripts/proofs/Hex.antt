@@ -1,7 +1,7 @@
 -- One byte more in hex, and what is written reads back.
 use Rattle.std.proofs.Common.{◌≡◌, ℕ, ◌+◌, ◌-◌, ◌*◌, ◌/◌, ◌%◌, ◌<◌, ◌≤◌, true, false, cond, ◌&&◌, ltb, leb, [], ◌∷◌, ◌++◌, length, get_or, drop, is_ok, IfOk, Some, None, Ok, Err, Option, Result, sym, refl, ap, ◌∙◌, append_assoc, arith}
 use Rattle.std.specs.Option.{option_map}
-use Rattle.std.specs.List.{AllByRecursion as All}
+use Rattle.std.specs.List.{AllByRecursion}
 use Rattle.std.proofs.lemmas.List.{append-nil, drop_more, drop_all, at_drop_more, at_drop_all}
 use Rattle.std.proofs.lemmas.Bool.{cond-true, cond-false, eq-eqb, ne_eqb}
 use Rattle.std.proofs.lemmas.Bool.Decides.{nat_tests}
@@ -105,13 +105,13 @@ pair_back b h =
     ap (λ o. both (λ x y. x * 16 + y) o (hex_value (hex_digit (b % 16)))) (value_back (b / 16) (omega arith))
     ∙ ap (λ o. option_map (λ y. b / 16 * 16 + y) o) (value_back (b % 16) (omega arith)) ∙ ap (λ n. Some n) whole
 
-pairs_back : (bs : Bytes) → All (λ b. b < 256) bs → pairs_bytes (pairs_text bs) ≡ Some bs
+pairs_back : (bs : Bytes) → AllByRecursion (λ b. b < 256) bs → pairs_bytes (pairs_text bs) ≡ Some bs
 unfolding pairs_bytes pairs_text
 pairs_back [] a = refl
 pairs_back (b ∷ bs) a =
     ap (λ o. both (λ x xs. x ∷ xs) o (pairs_bytes (pairs_text bs))) (pair_back b a.0) ∙ ap (option_map (λ xs. b ∷ xs)) (pairs_back bs a.1)
 
-pub hex_back : (bs : Bytes) → All (λ b. b < 256) bs → hex_bytes (hex_text bs) ≡ Some bs
+pub hex_back : (bs : Bytes) → AllByRecursion (λ b. b < 256) bs → hex_bytes (hex_text bs) ≡ Some bs
 unfolding hex_bytes hex_text pairs_text
 hex_back [] a = refl
 hex_back (b ∷ bs) a = pairs_back (b ∷ bs) a

@@ -75,6 +75,6 @@ pub ends : (last blocks : Bytes) (n size : ℕ) (s : State) → n % 64 ≡ lengt
     → hashed (length (take size blocks) / 64) (take size blocks) s ≡ hashed (length (last ++ padding n) / 64) (last ++ padding n) s
 ends last blocks n size s e f is = ap (λ t. hashed (length t / 64) t s) (is ∙ ap (λ t. last ++ t) (sym (padding_is n (length last) size e f)))
 
-pub thirty_two : (bs : Bytes) → length (sha256_of bs) ≡ 32
+pub length_sha256_of : (bs : Bytes) → length (sha256_of bs) ≡ 32
 unfolding state_bytes sha256_of
-thirty_two bs = refl
+length_sha256_of bs = refl

@@ -2,7 +2,7 @@
 ghost use Rattle.std.specs.Prelude.{◌≡◌, ◌+◌, ◌-◌, ◌*◌, ◌/◌, ◌%◌, ◌^◌, ◌≤◌, [], ◌∷◌, ◌++◌, length, take, replicate};
 ghost use Rattle.sha256.specs.Absorbed.{Absorbed};
 ghost use Rattle.sha256.specs.Sha256.{initial, u64_bytes, padding, hashed, state_bytes, sha256_of};
-ghost use Rattle.sha256.specs.Hashed.{thirty_two};
+ghost use Rattle.sha256.specs.Hashed.{length_sha256_of};
 
 use crate::block::compress;
 use crate::state::State;
@@ -19,7 +19,7 @@ impl Compressor for Chain {
 
     ghost absorbed = { Absorbed };
 
-    ghost thirtyTwo = { thirty_two };
+    ghost thirty_two = { length_sha256_of };
 
     fn begin() -> Chain {
         Chain {

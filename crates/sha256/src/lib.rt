@@ -6,7 +6,7 @@ ghost use Rattle.sha256.specs.Absorbed.{Absorbed};
 ghost use Rattle.sha256.specs.Constants.{ConstantsRule};
 ghost use Rattle.sha256.specs.Sha256.{sha256_of};
 ghost use Rattle.std.specs.Prelude.{take};
-ghost use Rattle.sha256.specs.Hashed.{thirty_two};
+ghost use Rattle.sha256.specs.Hashed.{length_sha256_of};
 ghost use Rattle.std.proofs.Common.{rules};
 
 use chain::Chain;
@@ -25,19 +25,19 @@ impl Digest for Sha256 {
 
     const BLOCK: usize = 64;
 
-    ghost kindOf = { 1 };
+    ghost kind_of = { 1 };
 
-    ghost blockOf = { 64 };
+    ghost block_of = { 64 };
 
     ghost digest = { sha256_of };
 
     ghost took = { λ s bs. Took Absorbed s.0.inner (take s.0.count s.0.held) bs };
 
-    ghost kindRange = { Prim.search rules };
+    ghost kind_range = { Prim.search rules };
 
-    ghost blockRange = { Prim.search rules };
+    ghost block_range = { Prim.search rules };
 
-    ghost thirtyTwo = { thirty_two };
+    ghost thirty_two = { length_sha256_of };
 
     fn kind_byte() -> u8 {
         Self::KIND

@@ -33,7 +33,7 @@ pub fn words_hmac<D: Digest>(
     heap: Global,
     rest: Option<&[u8]>,
 ) -> Result<Option<[u8; 32]>, AllocError>
-    ensures { IfOk result (λ o. o ≡ hmac_answer D.Digest.digest D.Digest.blockOf (option_map (λ x. x.now) rest.entry)) }
+    ensures { IfOk result (λ o. o ≡ hmac_answer D.Digest.digest D.Digest.block_of (option_map (λ x. x.now) rest.entry)) }
 {
     let Some(words) = rest else {
         return Ok(None);
