@@ -18,7 +18,7 @@ HERE = os.path.dirname(os.path.abspath(__file__))
 SCALAR = {"OPENSSL_ia32cap": "~0x1000020000000000:~0x20000020"}
 
 RIVALS = [
-    ("ours", [f"{FOLDER}/target/bin/ours"], {}),
+    ("ours", [f"{FOLDER}/crates/ours/out/ours"], {}),
     ("OpenSSL scalar", [f"{FOLDER}/evp"], SCALAR),
     ("OpenSSL", [f"{FOLDER}/evp"], {}),
     ("hashlib", [sys.executable, f"{HERE}/hashed.py"], {}),

@@ -1,5 +1,5 @@
 -- BLAKE2s of RFC 7693 with no key and 32 answer bytes; the numbers in the comments are the RFC's sections. Assumes nothing.
-use Rattle.std.specs.Prelude.{ℕ, zero, suc, ◌+◌, ◌-◌, ◌*◌, ◌/◌, ◌%◌, ◌^◌, Bool, true, false, cond, List, [], ◌∷◌, ◌++◌, map, length, take, drop, set, replicate, bit_or, bit_xor, slice_index, slice_set}
+use Rattle.std.specs.Prelude.{ℕ, zero, suc, ◌+◌, ◌-◌, ◌*◌, ◌/◌, ◌%◌, ◌^◌, Bool, true, false, cond, List, [], ◌∷◌, ◌++◌, map, length, take, drop, replicate, bit_or, bit_xor, slice_index, slice_set}
 use Rattle.std.specs.Simd.Lanes.{fold_l}
 use Rattle.std.specs.List.{flat_map}
 use Rattle.digests.specs.Strings.{Bytes}
@@ -72,8 +72,8 @@ round block v s =
 abbrev pub work : List ℕ → ℕ → Bool → List ℕ
 work h t last =
     let v = h ++ iv in
-    let v1 = set v 12 (bit_xor (slice_index v 12) (t % 2 ^ 32)) in
-    let v2 = set v1 13 (bit_xor (slice_index v1 13) (t / 2 ^ 32 % 2 ^ 32)) in
+    let v1 = slice_set v 12 (bit_xor (slice_index v 12) (t % 2 ^ 32)) in
+    let v2 = slice_set v1 13 (bit_xor (slice_index v1 13) (t / 2 ^ 32 % 2 ^ 32)) in
     cond last (slice_set v2 14 (bit_xor (slice_index v2 14) 0xffffffff)) v2
 
 -- 3.2: the chaining value after the rounds

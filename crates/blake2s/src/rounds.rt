@@ -35,7 +35,7 @@ fn sum(a: u32, b: u32, x: u32) -> u32
 
 // a ^ b turned right by N.
 fn turned<const N: u32>(a: u32, b: u32) -> u32
-    requires bound { N < 32 }
+    requires n_bound { N < 32 }
     requires n_nonzero { 0 < N }
     ensures { result ≡ rotr (bit_xor a b) N }
 {
@@ -57,7 +57,7 @@ fn word_at(block: &[u8], i: usize) -> u32
 
 // Message word k of round R.
 fn scheduled<const R: usize>(block: &[u8], k: usize) -> u32
-    requires bound { R < 10 }
+    requires r_bound { R < 10 }
     requires block_len { length block.now ≡ 64 }
     requires k_bound { k < 16 }
     ensures { result ≡ word block.now (slice_index (slice_index_or sigma R []) k) }
@@ -67,7 +67,7 @@ fn scheduled<const R: usize>(block: &[u8], k: usize) -> u32
 
 // Every other message word of round R from word k on.
 fn words<const R: usize>(block: &[u8], k: usize) -> Quad
-    requires bound { R < 10 }
+    requires r_bound { R < 10 }
     requires block_len { length block.now ≡ 64 }
     requires k_bound { k < 10 }
     ensures { result ≡ scheduled_words block.now (slice_index_or sigma R []) k }
@@ -84,9 +84,9 @@ fn words<const R: usize>(block: &[u8], k: usize) -> Quad
 // the compiler puts its code in place of the call.
 fn half<const R: usize, const K: usize, const P: u32, const Q: u32>(v: Rows, x: Quad) -> Rows
     requires p_nonzero { 0 < P }
-    requires bound { P < 32 }
+    requires p_bound { P < 32 }
     requires q_nonzero { 0 < Q }
-    requires bound_2 { Q < 32 }
+    requires q_bound { Q < 32 }
     ensures { result ≡ half_mixed P Q v x }
 {
     let a = (
@@ -118,8 +118,8 @@ fn half<const R: usize, const K: usize, const P: u32, const Q: u32>(v: Rows, x: 
 
 // The four mixings of columns, with the message words of round R from word K on.
 fn mix<const R: usize, const K: usize>(v: Rows, block: &[u8]) -> Rows
-    requires bound { R < 10 }
-    requires bound_2 { K < 9 }
+    requires r_bound { R < 10 }
+    requires k_bound { K < 9 }
     requires block_len { length block.now ≡ 64 }
     ensures { result ≡ half_mixed 8 7 (half_mixed 16 12 v (scheduled_words block.now (slice_index_or sigma R []) K)) (scheduled_words block.now (slice_index_or sigma R []) (K + 1)) }
 {
@@ -153,7 +153,7 @@ fn straighten(v: Rows) -> Rows
 
 // Round R: the columns, then the diagonals.
 pub fn turn<const R: usize>(v: Rows, block: &[u8]) -> Rows
-    requires bound { R < 10 }
+    requires r_bound { R < 10 }
     requires block_len { length block.now ≡ 64 }
     ensures { listed result ≡ round block.now (listed v) (slice_index_or sigma R []) }
 {

@@ -20,7 +20,7 @@ pub trait Digest: Sized {
     // How many bytes it works on at a time; HMAC fills its key up to as many.
     const BLOCK: usize;
 
-    // What the two constants are, for contracts: no clause can name a constant of a bound.
+    // What the two constants are, for contracts.
     ghost kind_of: { ℕ };
 
     ghost block_of: { ℕ };

@@ -10,17 +10,18 @@ pub mod Making
 pub mod Choice
 pub mod Any
 pub mod Cases
-pub mod Primes
+-- Proofs of laws: an impl cites them, and it can cite nothing of proofs/. No contract rests on what they say.
 pub mod Counting
 pub mod Every
-pub mod Binary
-pub mod Tested
-pub mod Numbered
-pub mod Lawful
-pub mod Bounded
-pub mod SingleLaw
 pub mod Lowest
+pub mod Bounded
+pub mod Roots
+pub mod Tested
+pub mod Primes
+pub mod Binary
+pub mod SingleLaw
 pub mod HalvesLaw
 pub mod PlaneLaw
 pub mod PolynomialLaw
-pub mod Roots
+pub mod Lawful
+pub mod Numbered

@@ -5,7 +5,7 @@ ghost use Rattle.answers.specs.declared.Refusal.TheVariants.{NoSuchParameter};
 ghost use Rattle.families.specs.Field.{primes, binaries, field_answer, FieldLaws, mod_sum, mod_product, binary_sum, binary_product, modulus, tabled};
 ghost use Rattle.families.specs.Numbers.{among};
 ghost use Rattle.families.specs.Primes.{prime_field};
-ghost use Rattle.std.proofs.Common.{rules, arith};
+ghost use Rattle.std.proofs.Common.{rules};
 ghost use Rattle.families.specs.Binary.{binary_field};
 
 use answers::Refusal;

@@ -3,7 +3,7 @@ ghost use Rattle.std.specs.Prelude.{◌≡◌, ◌≤◌, length};
 ghost use Rattle.std.specs.Result.{result_map_both};
 ghost use Rattle.digests.specs.Hmac.{hmac_of};
 ghost use Rattle.keys.specs.Tag.{tag_limit, tag_says, tag_key, tag_key_answer};
-ghost use Rattle.std.proofs.Common.{rules, arith};
+ghost use Rattle.std.proofs.Common.{rules};
 ghost use Rattle.keys.specs.Same.{same_self};
 
 use crate::buffer::put_front;

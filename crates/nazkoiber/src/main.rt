@@ -6,18 +6,20 @@ mod call;
 
 use bench::replay;
 use std::io::{Read, Write};
+use std::process::ExitCode;
 use std::{env, io};
 
-fn main(rt: HostRuntime) -> io::Result<()> {
+fn main(rt: HostRuntime) -> io::Result<ExitCode> {
     let mut words = env::args(&rt)?;
     let _ = words.next();
     if let Some(word) = words.next() {
         if word.as_str() == "replay" && words.next().is_none() {
-            return run(&rt);
+            run(&rt)?;
+            return Ok(ExitCode::SUCCESS);
         }
     }
     eprintln!(rt; "usage: nazkoiber replay < SCRIPT")?;
-    Err(io::Error::from(io::ErrorKind::InvalidInput))
+    Ok(ExitCode::FAILURE)
 }
 
 fn run(rt: &HostRuntime) -> io::Result<()> {

@@ -15,9 +15,9 @@ module _ (w0 w1 w2 w3 w4 w5 w6 w7 w8 w9 w10 w11 w12 w13 w14 w15 : ℕ) where
   unfolding four_more extended
   four_more_at = refl
 
-σ1-none : σ1 0 ≡ 0
+σ1_none : σ1 0 ≡ 0
 unfolding σ1
-σ1-none = refl
+σ1_none = refl
 
 -- the sums in the order in which the code adds them
 low : (y r x s : ℕ) → plus (plus (plus y r) x) s ≡ word s x r y
@@ -25,10 +25,10 @@ low y r x s = omega arith
 
 -- one word more, with nothing added where its lane waits
 waits : (y r x s : ℕ) → plus (plus (plus (plus y r) x) s) (σ1 0) ≡ word s x r y
-waits y r x s = ap (λ z. plus (plus (plus (plus y r) x) s) z) σ1-none ∙ omega arith
+waits y r x s = ap (λ z. plus (plus (plus (plus y r) x) s) z) σ1_none ∙ omega arith
 
 late : (y r x s : ℕ) → plus (plus (plus (plus y r) x) (σ1 0)) s ≡ word s x r y
-late y r x s = ap (λ z. plus (plus (plus (plus y r) x) z) s) σ1-none ∙ omega arith
+late y r x s = ap (λ z. plus (plus (plus (plus y r) x) z) s) σ1_none ∙ omega arith
 
 module _ (w0 w1 w2 w3 w4 w5 w6 w7 w8 w9 w10 w11 w12 w13 w14 w15 : ℕ) where
   pub following : (first second : ℕ) → first ≡ plus (plus (plus w0 (σ0 w1)) w9) (σ1 w14) → second ≡ plus (plus (plus w1 (σ0 w2)) w10) (σ1 w15)
