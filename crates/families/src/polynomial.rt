@@ -81,9 +81,8 @@ impl<F: Field> Family for Polynomial<F> {
         if block.0 == 0 || block.0 > self.block_count() {
             return false;
         }
-        let q = self.field.q() as u16;
-        let element = ((row.0 - 1) / q) as u8;
-        value_at(&self.field, self.k, block.0 - 1, element) as u16 == (row.0 - 1) % q
+        let (element, value) = point_of(row.0, self.field.q());
+        value_at(&self.field, self.k, block.0 - 1, element) == value
     }
 
     // Among blocks that differ in the constant alone, a row holds one, so that at most two lie between a block and the next.
@@ -95,9 +94,7 @@ impl<F: Field> Family for Polynomial<F> {
         if after.0 >= n {
             return None;
         }
-        let q = self.field.q() as u16;
-        let element = ((row.0 - 1) / q) as u8;
-        let value = ((row.0 - 1) % q) as u8;
+        let (element, value) = point_of(row.0, self.field.q());
         let next = first_with(&self.field, self.k, element, value, after.0);
         if next < n {
             Some(BlockNumber(next + 1))
@@ -105,6 +102,16 @@ impl<F: Field> Family for Polynomial<F> {
             None
         }
     }
+}
+
+// The element that a row belongs to, and the value there.
+fn point_of(row: u16, q: u8) -> (u8, u8)
+    requires { (1 ≤ q) × (1 ≤ row) × (row ≤ 256) }
+    ensures element { result.0 ≡ (row - 1) / q }
+    ensures value { result.1 ≡ (row - 1) % q }
+{
+    let place = row - 1;
+    ((place / q as u16) as u8, (place % q as u16) as u8)
 }
 
 // q^k

@@ -1,4 +1,4 @@
-use Rattle.std.proofs.Common.{ℕ, ◌-◌, ◌/◌, ◌%◌, eqb, sym, ap, ◌∙◌, arith}
+use Rattle.std.proofs.Common.{ℕ, ◌-◌, ◌/◌, ◌%◌, eqb, sym, ap, ap₂, ◌∙◌, arith}
 use Rattle.families.specs.Polynomial.{digits, value}
 use Rattle.families.proofs.PolynomialRows.{holds_at}
 use Rattle.families.proofs.polynomial.PolynomialFamily.holds.Goals as goal
@@ -13,5 +13,6 @@ returns g c =
     let row = c.args.row.0 in
     let block = c.args.block.0 in
     let at = λ (p : ℕ). eqb (value sum product (digits q s.k (block - 1)) ((row - 1) / p)) ((row - 1) % p) in
-    ap (λ v. eqb v ((row - 1) % c.q-q.result)) c.value_at.ensures ∙ ap at c.q-q.ensures
+    ap₂ eqb (c.value_at.ensures ∙ ap (value sum product (digits q s.k (block - 1))) c.point_of-element.ensures.element) c.point_of-element.ensures.value
+    ∙ ap at c.q.ensures
     ∙ sym (holds_at q sum product (g.met.F.Field.lawful f) s.k s.n row block (omega arith) (omega (arith, c.row_count.ensures)) (omega arith) (omega (arith, c.block_count.ensures)))

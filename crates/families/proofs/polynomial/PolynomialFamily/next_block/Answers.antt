@@ -33,8 +33,11 @@ returns-then-next-n g c =
     let f = s.field in
     let q = g.F.Field.order f in
     let row = c.args.row.0 in
-    let first = subst (λ p. FirstWith q (g.F.Field.plus f) (g.F.Field.times f) s.k ((row - 1) / p) ((row - 1) % p) c.args.after.0 c.first_with-next.result)
-    c.q-q.ensures c.first_with-next.ensures.first in
+    let point = c.point_of-element.ensures in
+    let first = subst (λ e. FirstWith q (g.F.Field.plus f) (g.F.Field.times f) s.k e ((row - 1) % q) c.args.after.0 c.first_with-next.result)
+    (point.element ∙ ap (λ p. (row - 1) / p) c.q.ensures)
+    (subst (λ v. FirstWith q (g.F.Field.plus f) (g.F.Field.times f) s.k c.point_of-element.result.0 v c.args.after.0 c.first_with-next.result)
+    (point.value ∙ ap (λ p. (row - 1) % p) c.q.ensures) c.first_with-next.ensures.first) in
     sym (ap (option_map block_number)
     (next_there q (g.F.Field.plus f) (g.F.Field.times f) (g.met.F.Field.lawful f) s.k s.n row (omega arith) (omega (arith, c.row_count.ensures))
     c.args.after.0 c.first_with-next.result first (omega (arith, c.block_count-n.ensures))))
@@ -45,8 +48,11 @@ returns-else-next-n g c =
     let f = s.field in
     let q = g.F.Field.order f in
     let row = c.args.row.0 in
-    let first = subst (λ p. FirstWith q (g.F.Field.plus f) (g.F.Field.times f) s.k ((row - 1) / p) ((row - 1) % p) c.args.after.0 c.first_with-next.result)
-    c.q-q.ensures c.first_with-next.ensures.first in
+    let point = c.point_of-element.ensures in
+    let first = subst (λ e. FirstWith q (g.F.Field.plus f) (g.F.Field.times f) s.k e ((row - 1) % q) c.args.after.0 c.first_with-next.result)
+    (point.element ∙ ap (λ p. (row - 1) / p) c.q.ensures)
+    (subst (λ v. FirstWith q (g.F.Field.plus f) (g.F.Field.times f) s.k c.point_of-element.result.0 v c.args.after.0 c.first_with-next.result)
+    (point.value ∙ ap (λ p. (row - 1) % p) c.q.ensures) c.first_with-next.ensures.first) in
     sym (ap (option_map block_number)
     (next_nowhere q (g.F.Field.plus f) (g.F.Field.times f) (g.met.F.Field.lawful f) s.k s.n row (omega arith) (omega (arith, c.row_count.ensures))
     c.args.after.0 c.first_with-next.result (omega (arith, c.block_count-n.ensures)) first (omega (arith, c.block_count-n.ensures))))
