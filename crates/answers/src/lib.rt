@@ -1,14 +1,24 @@
 // What every call answers where it does not succeed, and the numbers of blocks and rows.
 #![tactic(auto)]
 
-ghost use Rattle.std.specs.Prelude.{◌≡◌, Some};
+ghost use Rattle.std.specs.Prelude.{◌≡◌, ◌+◌, Some, MatchOption};
 ghost use Rattle.answers.specs.Refusals.{number_of, shown_as};
 
+use std::error::Error;
 use std::fmt;
 
 // A block of a sheet, counted from 1.
 #[derive(Clone, Copy, PartialEq, Eq, PartialOrd, Ord, Debug)]
 pub struct BlockNumber(pub u16);
+
+impl BlockNumber {
+    // Where the block stands in a list of all blocks. 0 is the number of none.
+    pub fn index(self) -> Option<usize>
+        ensures { MatchOption result (self.0 ≡ 0) (λ i. i + 1 ≡ self.0) }
+    {
+        usize::from(self.0).checked_sub(1)
+    }
+}
 
 // A row of a family, counted from 1. It is a type of its own, so that it never stands where a block's number belongs.
 #[derive(Clone, Copy, PartialEq, Eq, PartialOrd, Ord, Debug)]
@@ -43,6 +53,7 @@ pub enum Refusal {
 }
 
 impl Refusal {
+    // A method and no `From`: a number alone leaves out the count that 28 carries.
     pub fn number(self) -> u8
         ensures { result ≡ number_of self }
     {
@@ -71,6 +82,8 @@ impl Refusal {
         }
     }
 }
+
+impl Error for Refusal {}
 
 impl fmt::Display for Refusal {
     ghost output = { λ r. Some (shown_as r) };

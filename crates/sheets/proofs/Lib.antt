@@ -1,6 +1,5 @@
 mod Pieces
 mod Tells
-mod Known
-mod Moved
 mod Turned
+mod Known
 mod Lines

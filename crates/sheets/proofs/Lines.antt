@@ -1,33 +1,68 @@
--- A text cut at its line ends is its lines, and the loops over the line ends.
-use Rattle.std.proofs.Common.{◌≡◌, ℕ, ◌+◌, ◌-◌, ◌<◌, ◌≤◌, Bool, true, false, cond, ◌||◌, eqb, List, [], ◌∷◌, ◌++◌, length, get_or, drop, sym, refl, ap, ◌∙◌, subst, append_assoc, add-zero, arith, length-drop}
-use Rattle.std.specs.List.{flat_map}
+-- A text cut at its line ends is its lines, and so is one that `split_inclusive` cuts.
+use Rattle.std.proofs.Common.{◌≡◌, ℕ, zero, suc, ◌+◌, ◌-◌, ◌<◌, ◌≤◌, min, Option, None, MatchOption, Bor, Bool, true, false, cond, ◌||◌, eqb, List, [], ◌∷◌, ◌++◌, length, drop, sym, refl, ap, ◌∙◌, subst, append_assoc, add-zero, arith}
+use denote.Param.Members.{Mut}
+use Rattle.std.specs.Fn.{ComputesKey}
+use Rattle.std.specs.Iterator.{Yields}
+use Rattle.std.specs.List.{flat_map, IsFirstMatchOrLen}
+use Rattle.std.specs.Slice.Iter.{split_inclusive_rest, split_inclusive_callee}
+use Rattle.std.specs.declared.slice.SplitInclusive.{SplitInclusive}
 use Rattle.std.proofs.lemmas.Bool.Decides.{nat_tests}
-use Rattle.std.proofs.lemmas.List.{at_drop_more, at_drop_all, take_at, drop_at, length_push}
+use Rattle.std.proofs.lemmas.List.{take_at, drop_at, length_push, nil_from_length}
 use Rattle.sheets.specs.Table.{Bytes, pieces, line_ends}
 use Rattle.sheets.specs.Calls.{in_front, lines, all_lines, LinesOf}
 use Rattle.sheets.proofs.Pieces.{Rises, length_pieces}
 
--- whether the text's line ends with the byte at an index
-abbrev pub ends_at : Bytes → ℕ → Bool
-ends_at text i = eqb (get_or text i 0) 10 || eqb (i + 1) (length text)
+not_last : (y : ℕ) (ys : Bytes) → eqb (length (y ∷ ys)) 0 ≡ false
+not_last y ys = grind (arith, nat_tests)
 
-module _ (text : Bytes) (i : ℕ) (h : i < length text) where
-  none_left : eqb (length (drop (i + 1) text)) 0 ≡ eqb (i + 1) (length text)
-  none_left = let left = length-drop (i + 1) text in grind (arith, nat_tests)
+-- the first line of a text ends behind its first 0A, or else behind its last byte
+first_end : (at n i : ℕ) (bs : Bytes) → 0 < length bs → n ≡ min (i + 1) (length bs) → IsFirstMatchOrLen (λ y. eqb y 10) bs i
+    → line_ends at bs ≡ (at + n) ∷ line_ends (at + n) (drop n bs)
+first_end at n i [] h e f = absurd (omega arith)
+first_end at n i (x ∷ []) h e f =
+    let one : n ≡ 1 = omega arith in
+    rw one (elim (eqb x 10) as (λ v. cond (v || true) ((at + 1) ∷ []) [] ++ [] ≡ (at + 1) ∷ []) [ true ↦ refl | false ↦ refl ])
+first_end at n zero (x ∷ (y ∷ ys)) h e f =
+    let one : n ≡ 1 = omega arith in
+    let here : eqb x 10 ≡ true = f.1 (omega arith) 0 in
+    rw one (ap (λ v. cond (v || eqb (length (y ∷ ys)) 0) ((at + 1) ∷ []) [] ++ line_ends (at + 1) (y ∷ ys)) here)
+first_end at n (suc i) (x ∷ (y ∷ ys)) h e f =
+    let xs = y ∷ ys in
+    let m = min (i + 1) (length xs) in
+    let long : n ≡ suc m = omega arith in
+    let sum : at + 1 + m ≡ at + n = omega arith in
+    let here : eqb x 10 ≡ false = f.0 0 0 (omega arith) (omega arith) in
+    ap (λ v. cond (v || eqb (length xs) 0) ((at + 1) ∷ []) [] ++ line_ends (at + 1) xs) here
+    ∙ ap (λ v. cond v ((at + 1) ∷ []) [] ++ line_ends (at + 1) xs) (not_last y ys)
+    ∙ first_end (at + 1) m i (y ∷ ys) (omega arith) refl (λ k d l u. f.0 (suc k) d (omega arith) (omega arith), λ l d. f.1 (omega arith) d)
+    ∙ ap (λ k. k ∷ line_ends k (drop m xs)) sum
+    ∙ ap (λ t. (at + n) ∷ line_ends (at + n) t) (sym (ap (λ k. drop k (x ∷ xs)) long))
 
-  step : line_ends i (drop i text) ≡ cond (ends_at text i) ((i + 1) ∷ []) [] ++ line_ends (i + 1) (drop (i + 1) text)
-  step =
-      at_drop_more (line_ends i) text i 0 h
-      ∙ ap (λ v. cond (eqb (get_or text i 0) 10 || v) ((i + 1) ∷ []) [] ++ line_ends (i + 1) (drop (i + 1) text)) none_left
+pub next_line : (at : ℕ) (rest line left : Bytes) (i : ℕ) → rest ≡ line ++ left → length line ≡ min (i + 1) (length rest) → IsFirstMatchOrLen (λ y. eqb y 10) rest i → 0 < length rest
+    → line_ends at rest ≡ (at + length line) ∷ line_ends (at + length line) left
+next_line at rest line left i e l f h =
+    first_end at (length line) i rest h l f
+    ∙ ap (λ t. (at + length line) ∷ line_ends (at + length line) t) (ap (drop (length line)) e ∙ drop_at line left (length line) refl)
 
-  pub line_ends_yes : true ≡ ends_at text i → line_ends i (drop i text) ≡ (i + 1) ∷ line_ends (i + 1) (drop (i + 1) text)
-  line_ends_yes e = step ∙ ap (λ v. cond v ((i + 1) ∷ []) [] ++ line_ends (i + 1) (drop (i + 1) text)) (sym e)
+-- the parts that `split_inclusive` cuts a text into, where its closure tells 0A from other bytes
+module _ {F : Type 0} (g : Mut F (Bor ℕ × Unit {0}) Bool) where
+  abbrev steps : SplitInclusive ℕ F → Option (Bor Bytes) → SplitInclusive ℕ F → Type 0
+  steps s r t = MatchOption r ((length (split_inclusive_rest s) ≡ 0) × (t ≡ s))
+      (λ x. (split_inclusive_rest s ≡ x.now ++ split_inclusive_rest t)
+      × ((i : ℕ) × (length x.now ≡ min (i + 1) (length (split_inclusive_rest s)))
+      × ((p : ℕ → Bool) → ComputesKey g p (split_inclusive_callee s) → ComputesKey g p (split_inclusive_callee t) × IsFirstMatchOrLen p (split_inclusive_rest s) i))
+      × (0 < length (split_inclusive_rest s)))
 
-  pub line_ends_no : false ≡ ends_at text i → line_ends i (drop i text) ≡ line_ends (i + 1) (drop (i + 1) text)
-  line_ends_no e = step ∙ ap (λ v. cond v ((i + 1) ∷ []) [] ++ line_ends (i + 1) (drop (i + 1) text)) (sym e)
-
-pub line_ends_all : (text : Bytes) (i : ℕ) → length text ≤ i → line_ends i (drop i text) ≡ []
-line_ends_all text i h = at_drop_all (line_ends i) text i h
+  pub count_parts : (xs : List (Bor Bytes)) (s t u : SplitInclusive ℕ F) (at : ℕ) → ComputesKey g (λ y. eqb y 10) (split_inclusive_callee s) → Yields steps s xs t → steps t None u
+      → length xs ≡ length (line_ends at (split_inclusive_rest s))
+  count_parts [] s t u at key y stop =
+      let none : split_inclusive_rest s ≡ [] = nil_from_length (split_inclusive_rest s) (ap (λ z. length (split_inclusive_rest z)) y ∙ stop.0) in
+      sym (ap (λ t. length (line_ends at t)) none)
+  count_parts (x ∷ xs) s t u at key y stop =
+      let step = y.1 in
+      let first = step.1.2 (λ y. eqb y 10) key in
+      ap suc (count_parts xs y.0 t u (at + length x.now) first.0 y.2 stop)
+      ∙ sym (ap length (next_line at (split_inclusive_rest s) x.now (split_inclusive_rest y.0) step.1.0 step.0 step.1.1 first.1 step.2))
 
 -- a line begun with p
 abbrev begun : Bytes → List Bytes → List Bytes
@@ -52,9 +87,6 @@ begun_in_front p x y ys =
 begun_none : (ls : List Bytes) → begun [] ls ≡ ls
 begun_none [] = refl
 begun_none (l ∷ ls) = refl
-
-not_last : (y : ℕ) (ys : Bytes) → eqb (length (y ∷ ys)) 0 ≡ false
-not_last y ys = grind (arith, nat_tests)
 
 -- the text behind p, the line's bytes so far, cut at its line ends, where the line ends with x
 closed : (p : Bytes) (x : ℕ) (xs : Bytes) (start at : ℕ) → at ≡ start + length p → pieces (at + 1) (line_ends (at + 1) xs) xs ≡ begun [] (lines xs)

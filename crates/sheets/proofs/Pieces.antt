@@ -3,10 +3,14 @@ use Rattle.std.proofs.Common.{◌≡◌, ℕ, zero, suc, ◌+◌, ◌-◌, ◌<�
 use native.Mathlib.Nat.{sub_self}
 use Rattle.std.proofs.lemmas.Bool.Decides.{nat_tests}
 use Rattle.std.proofs.lemmas.List.{drop-drop, nil_from_length, take_all, take-append-le, drop-append-le, take_at, drop_at}
-use Rattle.sheets.specs.Table.{Bytes, pieces, rises, moved}
+use Rattle.sheets.specs.Table.{Bytes, pieces, rises}
 use Rattle.sheets.specs.Calls.{total_bytes}
 
--- the same as a fact
+-- the table with the ends from an index on moved: by so much back, then by so much on
+abbrev pub moved : List ℕ → ℕ → ℕ → ℕ → List ℕ
+moved ends i back on = take i ends ++ map (λ end. end - back + on) (drop i ends)
+
+-- `rises` as a fact
 abbrev pub Rises : ℕ → List ℕ → ℕ → Type 0
 Rises start [] stop = start ≡ stop
 Rises start (end ∷ ends) stop = (start ≤ end) × Rises end ends stop

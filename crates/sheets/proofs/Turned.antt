@@ -1,44 +1,49 @@
--- The bytes after the two turns, the cut and the addition of a replacement.
-use Rattle.std.proofs.Common.{◌≡◌, ℕ, ◌+◌, ◌-◌, ◌≤◌, List, [], ◌++◌, length, take, drop, sym, ap, ◌∙◌, append_assoc, arith, length-append, length-drop}
+-- A list whose part behind a place is exchanged or turned: the steps of a replacement, and the table after its later ends moved.
+use Rattle.std.proofs.Common.{◌≡◌, ℕ, ◌+◌, ◌-◌, ◌≤◌, List, [], ◌++◌, Vec, Global, vec_items, map, length, take, drop, sym, ap, ◌∙◌, append_assoc, arith, length-append, length-drop}
+use Rattle.std.specs.Vec.{with_items}
 use borrow.Rule.Slice.PartMut.{put_mid, post_of}
-use Rattle.std.proofs.lemmas.List.{drop-drop, drop_all, take_at, drop_at, length-take-le, take_rest, append-nil, take-append-drop}
+use Rattle.std.proofs.lemmas.List.{length-map, with_items_is, drop-drop, drop_all, take_at, drop_at, length-take-le, take_rest, append-nil, take-append-drop}
+use Rattle.sheets.proofs.Pieces.{moved}
 
--- the first `by` bytes behind `start` brought to the end
-abbrev pub turned : List ℕ → ℕ → ℕ → List ℕ
-turned xs start by = take start xs ++ (drop by (drop start xs) ++ take by (drop start xs))
+-- another part behind a place
+pub part_put : (v : Vec ℕ Global) (xs part : List ℕ) (i : ℕ) → length xs ≡ v.len → i ≤ length xs → length part ≡ length xs - i
+    → vec_items (with_items v (put_mid i (length xs - i) xs part)) ≡ take i xs ++ part
+part_put v xs part i all h l =
+    let none : post_of i (length xs - i) xs ≡ [] = drop-drop (length xs - i) i xs ∙ drop_all (i + (length xs - i)) xs (omega arith) in
+    let put : put_mid i (length xs - i) xs part ≡ take i xs ++ part = ap (λ t. take i xs ++ (part ++ t)) none ∙ ap (λ t. take i xs ++ t) (append-nil part) in
+    with_items_is v _ (ap length put ∙ length-append (take i xs) part ∙ omega (arith, length-take-le i xs h)) ∙ put
 
-module _ (xs new : List ℕ) (start end : ℕ) (low : start ≤ end) (high : end ≤ length xs) where
-  pub cut : take (length xs - (end - start)) (turned xs start (end - start)) ≡ take start xs ++ drop end xs
-  cut =
-      let gap = end - start in
-      let tail : drop gap (drop start xs) ≡ drop end xs = drop-drop gap start xs ∙ ap (λ k. drop k xs) (let e : start + gap ≡ end = omega arith in e) in
-      let long : length (take start xs ++ drop gap (drop start xs)) ≡ length xs - gap
-      = simp (length-append, length-take-le start xs (omega arith), length-drop) (omega arith) in
-      ap (take (length xs - gap)) (sym (append_assoc (take start xs) (drop gap (drop start xs)) (take gap (drop start xs))))
-      ∙ take_at (take start xs ++ drop gap (drop start xs)) (take gap (drop start xs)) (length xs - gap) long
-      ∙ ap (λ t. take start xs ++ t) tail
+pub part_moved : (v : Vec ℕ Global) (xs part : List ℕ) (i back on : ℕ) → xs ≡ vec_items v → i ≤ length xs → part ≡ map (λ end. end - back + on) (take (length xs - i) (drop i xs))
+    → vec_items (with_items v (put_mid i (length xs - i) xs part)) ≡ moved (vec_items v) i back on
+part_moved v xs part i back on same h e =
+    let behind : part ≡ map (λ end. end - back + on) (drop i xs) = e ∙ simp take_rest in
+    let long = ap length behind ∙ length-map (drop i xs) (λ end. end - back + on) ∙ length-drop i xs in
+    part_put v xs part i (ap length same ∙ sym v.ok.0) h long ∙ ap (λ t. take i xs ++ t) behind ∙ ap (λ t. moved t i back on) same
 
-  pub turned_back : (ys : List ℕ) → ys ≡ (take start xs ++ drop end xs) ++ new → turned ys start (length xs - end) ≡ take start xs ++ (new ++ drop end xs)
-  turned_back ys e =
-      let front : length (take start xs) ≡ start = length-take-le start xs (omega arith) in
-      let rest = drop end xs in
-      let flat = e ∙ append_assoc (take start xs) rest new in
-      ap (λ t. turned t start (length xs - end)) flat
-      ∙ ap (λ t. t ++ (drop (length xs - end) (drop start (take start xs ++ (rest ++ new))) ++ take (length xs - end) (drop start (take start xs ++ (rest ++ new))))) (take_at (take start xs) (rest ++ new) start front)
-      ∙ ap (λ t. take start xs ++ (drop (length xs - end) t ++ take (length xs - end) t)) (drop_at (take start xs) (rest ++ new) start front)
-      ∙ ap (λ t. take start xs ++ (t ++ take (length xs - end) (rest ++ new))) (drop_at rest new (length xs - end) (length-drop end xs))
-      ∙ ap (λ t. take start xs ++ (new ++ t)) (take_at rest new (length xs - end) (length-drop end xs))
+-- the part behind a place turned, so that q stands before p
+module _ (front p q xs part : List ℕ) (start : ℕ) (s : length front ≡ start) (e : xs ≡ front ++ (p ++ q)) where
+  behind : take (length xs - start) (drop start xs) ≡ p ++ q
+  behind = take_rest xs start ∙ ap (drop start) e ∙ drop_at front (p ++ q) start s
 
--- what a turn of the part behind `start` leaves
-pub part_turned : (xs part : List ℕ) (start by : ℕ) → start ≤ length xs → part ≡ drop by (take (length xs - start) (drop start xs)) ++ take by (take (length xs - start) (drop start xs))
-    → put_mid start (length xs - start) xs part ≡ turned xs start by
-part_turned xs part start by h e =
-    let all : length xs ≤ start + (length xs - start) = omega arith in
-    let none : post_of start (length xs - start) xs ≡ [] = drop-drop (length xs - start) start xs ∙ drop_all (start + (length xs - start)) xs all in
-    ap (λ t. take start xs ++ (part ++ t)) none ∙ ap (λ t. take start xs ++ t) (append-nil part ∙ e ∙ simp take_rest)
+  pub turned_left : (n : ℕ) → n ≡ length p → part ≡ drop n (take (length xs - start) (drop start xs)) ++ take n (take (length xs - start) (drop start xs)) → take start xs ++ part ≡ front ++ (q ++ p)
+  turned_left n l h =
+      ap (λ t. take start t ++ part) e ∙ ap (λ t. t ++ part) (take_at front (p ++ q) start s)
+      ∙ ap (λ t. front ++ t) (h ∙ ap (λ t. drop n t ++ take n t) behind ∙ ap (λ t. t ++ take n (p ++ q)) (drop_at p q n (sym l)) ∙ ap (λ t. q ++ t) (take_at p q n (sym l)))
 
-pub length_turned : (xs : List ℕ) (start by : ℕ) → length (turned xs start by) ≡ length xs
-length_turned xs start by =
-    length-append (take start xs) (drop by (drop start xs) ++ take by (drop start xs))
-    ∙ ap (λ n. length (take start xs) + n) (length-append (drop by (drop start xs)) (take by (drop start xs)))
-    ∙ omega (arith, length-append (take start xs) (drop start xs), ap length (take-append-drop start xs), length-append (take by (drop start xs)) (drop by (drop start xs)), ap length (take-append-drop by (drop start xs)))
+  pub turned_right : (n : ℕ) → n ≡ length q
+      → part ≡ drop (length (take (length xs - start) (drop start xs)) - n) (take (length xs - start) (drop start xs)) ++ take (length (take (length xs - start) (drop start xs)) - n) (take (length xs - start) (drop start xs))
+      → take start xs ++ part ≡ front ++ (q ++ p)
+  turned_right n l h = turned_left (length (take (length xs - start) (drop start xs)) - n) (omega (arith, ap length behind, length-append p q)) h
+
+-- a list in three pieces, and without the last two once these have changed places
+module _ (xs : List ℕ) (start end : ℕ) (low : start ≤ end) (high : end ≤ length xs) where
+  pub in_three : xs ≡ take start xs ++ (take (end - start) (drop start xs) ++ drop end xs)
+  in_three =
+      let gap : start + (end - start) ≡ end = omega arith in
+      let rest : drop (end - start) (drop start xs) ≡ drop end xs = drop-drop (end - start) start xs ∙ ap (λ k. drop k xs) gap in
+      sym (ap (λ t. take start xs ++ (take (end - start) (drop start xs) ++ t)) (sym rest) ∙ ap (λ t. take start xs ++ t) (take-append-drop (end - start) (drop start xs)) ∙ take-append-drop start xs)
+
+  pub first_two : (n : ℕ) → n ≡ length xs - (end - start) → take n (take start xs ++ (drop end xs ++ take (end - start) (drop start xs))) ≡ take start xs ++ drop end xs
+  first_two n e =
+      ap (take n) (sym (append_assoc (take start xs) (drop end xs) (take (end - start) (drop start xs))))
+      ∙ take_at (take start xs ++ drop end xs) (take (end - start) (drop start xs)) n (length-append (take start xs) (drop end xs) ∙ omega (arith, length-take-le start xs (omega arith), length-drop end xs))

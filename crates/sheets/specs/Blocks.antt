@@ -2,7 +2,7 @@
 use Rattle.std.specs.Prelude.{◌≡◌, ℕ, ◌-◌, ◌≤◌, List, ◌∷◌, Ok, vec_items, slice_index, slice_range}
 use Rattle.sheets.specs.declared.sheet.Sheet.{Sheet}
 use Rattle.sheets.specs.Table.{Bytes, pieces}
-use Rattle.sheets.specs.Calls.{total_bytes, rewrite_answer, block_answer}
+use Rattle.sheets.specs.Calls.{total_bytes, block_answer}
 
 abbrev pub blocks_of : Sheet → List Bytes
 blocks_of s = pieces 0 (vec_items s.ends) (vec_items s.bytes)
@@ -14,9 +14,3 @@ pub record Stands (s : Sheet) (j from to : ℕ) : Type 0 where
   pub from_is : from ≡ slice_index (0 ∷ vec_items s.ends) (j - 1)
   pub to_is : to ≡ slice_index (vec_items s.ends) (j - 1)
   pub block_is : Ok (slice_range (vec_items s.bytes) from to) ≡ block_answer (blocks_of s) j
-
--- Block j stands at an index from one place to another, and there is room for b in its stead, with a new total.
-pub record RoomFor (s : Sheet) (j : ℕ) (b : Bytes) (index from to total : ℕ) : Type 0 where
-  pub index_is : index ≡ j - 1
-  pub stands : Stands s j from to
-  pub good : Ok total ≡ rewrite_answer (blocks_of s) j b

@@ -1,5 +1,5 @@
 -- Bytes in one run, and a table of the places where their blocks end. Assumes nothing.
-use Rattle.std.specs.Prelude.{ℕ, ◌+◌, ◌-◌, Bool, cond, ◌&&◌, ◌||◌, List, [], ◌∷◌, ◌++◌, map, length, take, drop, ◌==◌, nat_le}
+use Rattle.std.specs.Prelude.{ℕ, ◌+◌, ◌-◌, Bool, cond, ◌&&◌, ◌||◌, List, [], ◌∷◌, ◌++◌, length, take, drop, ◌==◌, nat_le}
 
 abbrev pub Bytes : Type 0
 Bytes = List ℕ
@@ -20,10 +20,6 @@ pieces start (end ∷ ends) bs = take (end - start) bs ∷ pieces end ends (drop
 abbrev pub rises : ℕ → List ℕ → ℕ → Bool
 rises start [] stop = start == stop
 rises start (end ∷ ends) stop = nat_le start end && rises end ends stop
-
--- the table with the ends from an index on moved: by so much back, then by so much on
-abbrev pub moved : List ℕ → ℕ → ℕ → ℕ → List ℕ
-moved ends i back on = take i ends ++ map (λ end. end - back + on) (drop i ends)
 
 -- The places where the lines of a text end whose first byte stands at a place: behind each 0A, and behind the last byte.
 abbrev pub line_ends : ℕ → Bytes → List ℕ

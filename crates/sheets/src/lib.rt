@@ -7,6 +7,7 @@ ghost use Rattle.sheets.specs.Table.{Bytes};
 pub mod sheet;
 
 pub use sheet::Sheet;
+pub use sheet::blocks::Blocks;
 
 // What a sheet holds at most.
 pub const MAX_BLOCKS: usize = 512;
@@ -14,8 +15,6 @@ pub const MAX_BLOCKS: usize = 512;
 pub const MAX_BYTES: usize = 38_912;
 
 // What cut makes of a text is its lines: joined they are the text, and each but the last ends with its only 0A.
-pub fn lines_stand() -> u8
+pub fn lines_stand()
     ensures { (text : Bytes) → LinesOf text (lines text) }
-{
-    0
-}
+{}

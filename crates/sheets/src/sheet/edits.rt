@@ -1,21 +1,13 @@
 // The calls that change a sheet. Each first decides its answer, cause by cause, and changes the sheet only where that is good.
-ghost use Rattle.std.specs.Prelude.{◌≡◌, ℕ, ◌+◌, ◌-◌, ◌<◌, ◌≤◌, true, ◌||◌, [], ◌∷◌, ◌++◌, length, take, drop, is_ok, Err, vec_len, vec_capacity, MatchResult, OnErr, ◌==◌, slice_index, slice_set};
-ghost use Rattle.sheets.specs.Blocks.{blocks_of, RoomFor};
+ghost use Rattle.std.specs.Prelude.{◌≡◌, ◌+◌, ◌-◌, ◌≤◌, true, [], ◌∷◌, ◌++◌, map, length, take, drop, is_ok, vec_len, vec_capacity, OnErr, slice_index, slice_set, EachIndex};
+ghost use Rattle.sheets.specs.Blocks.{blocks_of, Stands};
 ghost use Rattle.sheets.specs.Calls.{lines, with_block, cut_answer, add_answer, rewrite_answer, after};
-ghost use Rattle.sheets.specs.Table.{max_bytes, line_ends, moved};
+ghost use Rattle.sheets.specs.Table.{max_bytes, line_ends};
 
-use super::Sheet;
+use super::{Place, Sheet};
 use crate::{MAX_BLOCKS, MAX_BYTES};
 use answers::{BlockNumber, Refusal};
-
-// Where a block stands in the bytes, and the sheet's total once it is rewritten.
-#[derive(Clone, Copy)]
-struct Place {
-    index: usize,
-    start: usize,
-    end: usize,
-    total: usize,
-}
+use std::ops::Range;
 
 impl Sheet {
     // Fills an empty sheet from a text: each line with its byte 0A is a block, and so is a last piece without one. Answers the block count.
@@ -46,9 +38,10 @@ impl Sheet {
         ensures blocks { blocks_of self.new ≡ after result (with_block (blocks_of self.old) number.0 bytes.now) (blocks_of self.old) }
         ensures kept { OnErr result (self.new ≡ self.old) }
     {
-        let place = self.place(number, bytes)?;
+        let place = self.place(number)?;
+        let total = self.total_with(&place, bytes)?;
         self.put(place, bytes);
-        Ok(place.total)
+        Ok(total)
     }
 
     fn cut_count(&self, text: &[u8]) -> Result<u16, Refusal>
@@ -84,123 +77,94 @@ impl Sheet {
         Ok(BlockNumber(count as u16 + 1))
     }
 
-    fn place(&self, number: BlockNumber, bytes: &[u8]) -> Result<Place, Refusal>
-        ensures { MatchResult result
-            (λ p. RoomFor self.now number.0 bytes.now p.index p.start p.end p.total)
-            (λ e. Err e ≡ rewrite_answer (blocks_of self.now) number.0 bytes.now) }
+    // The total once a block has other bytes.
+    #[tactic(auto, using(crate::proofs::Known::there, crate::proofs::Known::total_after, crate::proofs::Tells::rewrite_full, crate::proofs::Tells::rewrite_ok))]
+    fn total_with(&self, place: &Place, bytes: &[u8]) -> Result<usize, Refusal>
+        requires { Stands self.now (place.now.index + 1) place.now.span.start place.now.span.end }
+        ensures { result ≡ rewrite_answer (blocks_of self.now) (place.now.index + 1) bytes.now }
     {
-        let (start, end) = self.span(number)?;
         if bytes.len() > MAX_BYTES {
             return Err(Refusal::TooLong);
         }
-        let total = self.bytes().len() - (end - start) + bytes.len();
+        let total = self.bytes().len() - place.span.len() + bytes.len();
         if total > MAX_BYTES {
             return Err(Refusal::SheetFull);
         }
-        let index = number.0 as usize - 1;
-        Ok(Place {
-            index,
-            start,
-            end,
-            total,
-        })
+        Ok(total)
     }
 
+    #[tactic(auto, using(crate::proofs::Tells::cut_allows, crate::proofs::Known::none_held, crate::proofs::Known::count_is, crate::proofs::Lines::length_lines))]
     fn fill(&mut self, text: &[u8])
         requires { is_ok (cut_answer (blocks_of self.old) text.now) ≡ true }
         ensures { blocks_of self.new ≡ lines text.now }
     {
-        let _ = self.bytes.extend_from_slice(text);
+        self.bytes.extend_from_slice(text).unwrap();
         push_line_ends(&mut self.ends, text);
     }
 
+    #[tactic(auto, using(crate::proofs::Tells::add_allows, crate::proofs::Known::count_is, crate::proofs::Known::size_is))]
     fn append(&mut self, bytes: &[u8])
         requires { is_ok (add_answer (blocks_of self.old) bytes.now) ≡ true }
         ensures { blocks_of self.new ≡ blocks_of self.old ++ bytes.now ∷ [] }
     {
-        let _ = self.bytes.extend_from_slice(bytes);
+        self.bytes.extend_from_slice(bytes).unwrap();
         self.ends.push_reserved(self.bytes.len() as u16);
     }
 
+    #[tactic(auto, using(crate::proofs::Known::short, crate::proofs::Known::room_after, crate::proofs::Known::size_is))]
     fn put(&mut self, place: Place, bytes: &[u8])
-        requires { (j : ℕ) × RoomFor self.old j bytes.now place.index place.start place.end place.total }
+        requires stands { Stands self.old (place.index + 1) place.span.start place.span.end }
+        requires fits { is_ok (rewrite_answer (blocks_of self.old) (place.index + 1) bytes.now) ≡ true }
         ensures { blocks_of self.new ≡ slice_set (blocks_of self.old) place.index bytes.now }
     {
-        replace(&mut self.bytes, place.start, place.end, bytes);
-        move_ends(
-            &mut self.ends,
-            place.index,
-            place.end - place.start,
-            bytes.len(),
-        );
+        move_ends(&mut self.ends[place.index..], place.span.len(), bytes.len());
+        replace(&mut self.bytes, place.span, bytes);
     }
 }
 
 fn count_lines(text: &[u8]) -> usize
     ensures { result ≡ length (lines text.now) }
 {
-    let mut count = 0;
-    for i in 0..text.len() {
-        if ends_line(text, i) {
-            count += 1;
-        }
-    }
-    count
+    text.split_inclusive(|byte| *byte == b'\n').count()
 }
 
 fn push_line_ends(ends: &mut Vec<u16>, text: &[u8])
-    requires { (length text.now ≤ max_bytes) × (vec_len ends.old + length (line_ends 0 text.now) ≤ vec_capacity ends.old) }
+    requires short { length text.now ≤ max_bytes }
+    requires room { vec_len ends.old + length (line_ends 0 text.now) ≤ vec_capacity ends.old }
     ensures items { ends.new.items ≡ ends.old.items ++ line_ends 0 text.now }
     ensures capacity { vec_capacity ends.new ≡ vec_capacity ends.old }
 {
-    for i in 0..text.len() {
-        if ends_line(text, i) {
-            ends.push_reserved((i + 1) as u16);
-        }
+    let mut end = 0;
+    for line in text.split_inclusive(|byte| *byte == b'\n') {
+        end += line.len();
+        ends.push_reserved(end as u16);
     }
 }
 
-// Whether a line ends with the byte at an index: it is 0A, or the last.
-fn ends_line(text: &[u8], i: usize) -> bool
-    requires { i < length text.now }
-    ensures { result ≡ (slice_index text.now i == 10 || i + 1 == length text.now) }
-{
-    text[i] == b'\n' || i + 1 == text.len()
-}
-
-// Puts other bytes in place of those from `start` to `end`. What stands behind them moves twice, and no room beyond the result's is needed.
-fn replace(all: &mut Vec<u8>, start: usize, end: usize, new: &[u8])
-    requires { (start ≤ end) × (end ≤ vec_len all.old) × (vec_len all.old - (end - start) + length new.now ≤ max_bytes) × (max_bytes ≤ vec_capacity all.old) }
-    ensures items { all.new.items ≡ take start all.old.items ++ (new.now ++ drop end all.old.items) }
-    ensures len { vec_len all.new ≡ vec_len all.old - (end - start) + length new.now }
+// Puts other bytes in place of those of a span: the old bytes turn to the end and are cut off, and the new ones turn from there to their place. No room beyond the result's is needed, as `splice` would need it.
+fn replace(all: &mut Vec<u8>, span: Range<usize>, new: &[u8])
+    requires forward { span.start ≤ span.end }
+    requires inside { span.end ≤ vec_len all.old }
+    requires fits { vec_len all.old - (span.end - span.start) + length new.now ≤ max_bytes }
+    requires room { max_bytes ≤ vec_capacity all.old }
+    ensures items { all.new.items ≡ take span.start all.old.items ++ (new.now ++ drop span.end all.old.items) }
+    ensures len { vec_len all.new ≡ vec_len all.old - (span.end - span.start) + length new.now }
     ensures capacity { max_bytes ≤ vec_capacity all.new }
 {
-    let len = all.len();
-    turn(all, start, end - start);
-    all.truncate(len - (end - start));
-    let _ = all.extend_from_slice(new);
-    turn(all, start, len - end);
+    let kept = all.len() - span.len();
+    all[span.start..].rotate_left(span.len());
+    all.truncate(kept);
+    all.extend_from_slice(new).unwrap();
+    all[span.start..].rotate_right(new.len());
 }
 
-// Behind `start`, brings the first `by` bytes to the end.
-fn turn(all: &mut Vec<u8>, start: usize, by: usize)
-    requires { start + by ≤ vec_len all.old }
-    ensures items { all.new.items ≡ take start all.old.items ++ (drop by (drop start all.old.items) ++ take by (drop start all.old.items)) }
-    ensures len { vec_len all.new ≡ vec_len all.old }
-    ensures capacity { vec_capacity all.new ≡ vec_capacity all.old }
+// Moves ends by so much back and then by so much on.
+fn move_ends(ends: &mut [u16], back: usize, on: usize)
+    requires inside { EachIndex ends.old (λ k. back ≤ slice_index ends.old k) }
+    requires fits { EachIndex ends.old (λ k. slice_index ends.old k - back + on ≤ max_bytes) }
+    ensures { ends.new ≡ map (λ end. end - back + on) ends.old }
 {
-    let bytes = all.as_mut_slice();
-    bytes[start..].rotate_left(by);
-}
-
-// Moves the ends from an index on, by so much back and then by so much on.
-fn move_ends(ends: &mut Vec<u16>, index: usize, back: usize, on: usize)
-    requires { (index ≤ vec_len ends.old) × ((k : ℕ) → index ≤ k → k < vec_len ends.old → (back ≤ slice_index ends.old.items k) × (slice_index ends.old.items k - back + on ≤ max_bytes)) }
-    ensures items { ends.new.items ≡ moved ends.old.items index back on }
-    ensures len { vec_len ends.new ≡ vec_len ends.old }
-    ensures capacity { vec_capacity ends.new ≡ vec_capacity ends.old }
-{
-    for k in index..ends.len() {
-        ends[k] = (ends[k] as usize - back + on) as u16;
+    for end in ends.iter_mut() {
+        *end = (usize::from(*end) - back + on) as u16;
     }
 }

@@ -1,29 +1,19 @@
-use Rattle.std.proofs.Common.{refl, arith}
-use Rattle.sheets.specs.Blocks.{blocks_of}
-use Rattle.sheets.proofs.Known.{total_after}
-use Rattle.sheets.proofs.Tells.{block_allows, rewrite_full, rewrite_ok}
+use Rattle.std.proofs.Common.{◌≡◌, suc, ◌+◌, ◌-◌, ◌<◌, ◌∷◌, length, get_or, sym, ap, ◌∙◌, arith}
+use Rattle.std.proofs.lemmas.Grind.{common_steps}
+use Rattle.sheets.proofs.Known.{stands}
 use Rattle.sheets.proofs.sheet.Sheet.place.Goals as goal
-
-pub returns-then-total-gt-MAX_BYTES : goal.returns-then-total-gt-MAX_BYTES
-returns-then-total-gt-MAX_BYTES c =
-    let s = c.args.self.now in
-    let j = c.args.number.0 in
-    let b = c.args.bytes.now in
-    let h = c.in_ok-start.ensures in
-    let there = block_allows (blocks_of s) j _ h.block_is in
-    let sum = total_after s j c.in_ok-start.start c.in_ok-start.end h b in
-    rewrite_full (blocks_of s) j b there.0 there.1 c.if-bytes-gt-MAX_BYTES.false _ (omega (arith, sum, c.bytes.ensures.total)) c.if-total-gt-MAX_BYTES.true
+use Rattle.sheets.proofs.sheet.Sheet.place.Goals.{then-index-eq0, else-index-eq0}
 
 pub returns : goal.returns
 returns c =
-    let s = c.args.self.now in
-    let j = c.args.number.0 in
-    let b = c.args.bytes.now in
-    let h = c.in_ok-start.ensures in
-    let there = block_allows (blocks_of s) j _ h.block_is in
-    let sum = total_after s j c.in_ok-start.start c.in_ok-start.end h b in
-    record {
-      index_is = refl;
-      stands = h;
-      good = rewrite_ok (blocks_of s) j b there.0 there.1 c.if-bytes-gt-MAX_BYTES.false _ (omega (arith, sum, c.bytes.ensures.total)) c.if-total-gt-MAX_BYTES.false;
-    }
+    let ends = c.ends-ends.result.now in
+    let i = c.in_ok-index.index in
+    let number : i + 1 ≡ c.args.number.0 = grind (arith, common_steps) in
+    let short : i < length ends = grind (arith, common_steps) in
+    let from : c.from.result ≡ get_or (0 ∷ ends) i 0
+    = c.from.ensures ∙ elim c.if-index-eq0.branch [
+      | then-index-eq0 w ↦ w.start-is ∙ ap (λ k. get_or (0 ∷ ends) k 0) (sym w.if-index-eq0.true)
+      | else-index-eq0 w ↦ let later : suc (i - 1) ≡ i = omega (arith, w.if-index-eq0.false) in w.start-is ∙ ap (λ k. get_or (0 ∷ ends) k 0) later
+    ] in
+    let to : get_or ends i 0 ≡ c.from-2.result = cc in
+    (number, rw (number, to) at (stands c.args.self.now i c.from.result ends c.ends-ends.ensures.items short from))
