@@ -1,9 +1,10 @@
 // The compression function F.
-ghost use Rattle.std.specs.Prelude.{◌≡◌, length};
+ghost use Rattle.std.specs.Prelude.{◌≡◌};
 ghost use Rattle.blake2s.specs.Blake2s.{work, fed, compressed};
 ghost use Rattle.blake2s.specs.States.{listed};
 
 use crate::rounds::{Rows, turn};
+use std::simd::prelude::*;
 
 pub const IV: [u32; 8] = [
     0x6a09_e667,
@@ -16,11 +17,11 @@ pub const IV: [u32; 8] = [
     0x5be0_cd19,
 ];
 
-pub fn compress(h: &mut [u32; 8], block: &[u8], t: u64, last: bool)
-    requires { length block.now ≡ 64 }
+pub fn compress(h: &mut [u32; 8], block: &[u8; 64], t: u64, last: bool)
     ensures { h.new ≡ compressed h.old block.now t last }
 {
     let v = begin(h, t, last);
+    // Ten calls and no loop over SIGMA, which measured a fifth slower: the numbers of the words are constants this way.
     let v = turn::<0>(v, block);
     let v = turn::<1>(v, block);
     let v = turn::<2>(v, block);
@@ -34,6 +35,7 @@ pub fn compress(h: &mut [u32; 8], block: &[u8], t: u64, last: bool)
     feed(h, v);
 }
 
+#[tactic(auto, using(crate::proofs::Begun::begun))]
 fn begin(h: &[u32; 8], t: u64, last: bool) -> Rows
     ensures { listed result ≡ work h.now t last }
 {
@@ -41,24 +43,18 @@ fn begin(h: &[u32; 8], t: u64, last: bool) -> Rows
     let high = (t / 0x1_0000_0000) as u32;
     let flag = if last { 0xffff_ffff } else { 0 };
     Rows {
-        a: (h[0], h[1], h[2], h[3]),
-        b: (h[4], h[5], h[6], h[7]),
-        c: (IV[0], IV[1], IV[2], IV[3]),
-        d: (IV[4] ^ low, IV[5] ^ high, IV[6] ^ flag, IV[7]),
+        a: u32x4::from_array([h[0], h[1], h[2], h[3]]),
+        b: u32x4::from_array([h[4], h[5], h[6], h[7]]),
+        c: u32x4::from_array([IV[0], IV[1], IV[2], IV[3]]),
+        d: u32x4::from_array([IV[4] ^ low, IV[5] ^ high, IV[6] ^ flag, IV[7]]),
     }
 }
 
 fn feed(h: &mut [u32; 8], v: Rows)
     ensures { h.new ≡ fed h.old (listed v) }
 {
-    *h = [
-        h[0] ^ v.a.0 ^ v.c.0,
-        h[1] ^ v.a.1 ^ v.c.1,
-        h[2] ^ v.a.2 ^ v.c.2,
-        h[3] ^ v.a.3 ^ v.c.3,
-        h[4] ^ v.b.0 ^ v.d.0,
-        h[5] ^ v.b.1 ^ v.d.1,
-        h[6] ^ v.b.2 ^ v.d.2,
-        h[7] ^ v.b.3 ^ v.d.3,
-    ];
+    let [h0, h1, h2, h3, h4, h5, h6, h7] = *h;
+    let [a0, a1, a2, a3] = (u32x4::from_array([h0, h1, h2, h3]) ^ v.a ^ v.c).to_array();
+    let [b0, b1, b2, b3] = (u32x4::from_array([h4, h5, h6, h7]) ^ v.b ^ v.d).to_array();
+    *h = [a0, a1, a2, a3, b0, b1, b2, b3];
 }

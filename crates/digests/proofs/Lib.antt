@@ -1,4 +1,4 @@
 mod Pads
+pub mod Mapped
 mod Same
-mod Taken
 mod Held

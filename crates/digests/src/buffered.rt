@@ -1,10 +1,19 @@
 // Bytes that come in pieces of any length, handed on in blocks of 64.
-ghost use Rattle.std.specs.Prelude.{◌≡◌, ◌+◌, ◌<◌, ◌≤◌, ◌⊎◌, [], ◌++◌, length, take};
+ghost use Rattle.std.specs.Prelude.{◌≡◌, ℕ, ◌+◌, ◌≤◌, ◌⊎◌, [], ◌++◌, length, take};
+ghost use Rattle.std.specs.List.{flat_map};
+ghost use Rattle.std.proofs.Common.{rules};
 ghost use Rattle.digests.specs.Strings.{Bytes};
 ghost use Rattle.digests.specs.Took.{Took};
 
+use crate::Digest;
+
 // The part of a digest that works on whole blocks: it absorbs one after the other, and finishes with a last piece of at most one block.
 pub trait Compressor: Sized {
+    // The number by which a seal names the digest.
+    const KIND: u8;
+
+    ghost KIND: { ℕ };
+
     // The answer to all bytes.
     ghost digest: { Bytes → Bytes };
 
@@ -14,8 +23,7 @@ pub trait Compressor: Sized {
     fn begin() -> Self
         ensures { absorbed result [] };
 
-    fn absorb(&mut self, block: &[u8])
-        requires { length block.now ≡ 64 }
+    fn absorb(&mut self, block: &[u8; 64])
         ensures { (bs : Bytes) → absorbed self.old bs → absorbed self.new (bs ++ block.now) };
 
     // The last piece is empty only where nothing was absorbed: some digests treat the last block otherwise than those before it.
@@ -23,10 +31,13 @@ pub trait Compressor: Sized {
         requires { length last.now ≤ 64 }
         ensures { (bs : Bytes) → absorbed self bs → (1 ≤ length last.now) ⊎ (bs ≡ []) → result ≡ digest (bs ++ last.now) };
 
+    ghost kind_range: { (1 ≤ KIND) × (KIND ≤ 255) };
+
     ghost thirty_two: { (bs : Bytes) → length (digest bs) ≡ 32 };
 }
 
 // A compressor with the bytes that it has not absorbed yet. A full block waits until more bytes come, since it may be the last.
+// An array beside its count, and no ArrayVec: that lends a full block as a slice, and no `&[u8; 64]` without a conversion that could fail.
 pub struct Buffered<C> {
     inner: C,
     held: [u8; 64],
@@ -34,10 +45,26 @@ pub struct Buffered<C> {
     ghost within: { count ≤ 64 },
 }
 
-impl<C: Compressor> Buffered<C> {
-    pub fn start() -> Buffered<C>
-        ensures { Took C.Compressor.absorbed result.inner (take result.count result.held) [] }
-    {
+impl<C: Compressor> Digest for Buffered<C> {
+    const KIND: u8 = C::KIND;
+
+    ghost KIND = { C.KIND };
+
+    const BLOCK: usize = 64;
+
+    ghost BLOCK = { 64 };
+
+    ghost digest = { C.digest };
+
+    ghost took = { λ b bs. Took C.absorbed b.inner (take b.count b.held) bs };
+
+    ghost kind_range = { C.kind_range };
+
+    ghost block_range = { Prim.search rules };
+
+    ghost thirty_two = { C.thirty_two };
+
+    fn start() -> Buffered<C> {
         Buffered {
             inner: C::begin(),
             held: [0; 64],
@@ -45,50 +72,47 @@ impl<C: Compressor> Buffered<C> {
         }
     }
 
-    pub fn take(&mut self, piece: &[u8])
-        ensures { (bs : Bytes) → Took C.Compressor.absorbed self.old.inner (take self.old.count self.old.held) bs
-            → Took C.Compressor.absorbed self.new.inner (take self.new.count self.new.held) (bs ++ piece.now) }
-    {
+    fn take(&mut self, piece: &[u8]) {
         let room = 64 - self.count;
         if piece.len() <= room {
             hold(&mut self.held, self.count, piece);
             self.count += piece.len();
             return;
         }
-        hold(&mut self.held, self.count, &piece[0..room]);
+        let (first, rest) = piece.split_at(room);
+        hold(&mut self.held, self.count, first);
         self.inner.absorb(&self.held);
-        let rest = &piece[room..];
-        let gone = absorb_blocks(&mut self.inner, rest);
-        hold(&mut self.held, 0, &rest[gone..]);
-        self.count = rest.len() - gone;
+        let (blocks, last) = split_blocks(rest);
+        for block in blocks {
+            self.inner.absorb(block);
+        }
+        hold(&mut self.held, 0, last);
+        self.count = last.len();
     }
 
-    pub fn end(self) -> [u8; 32]
-        ensures { (bs : Bytes) → Took C.Compressor.absorbed self.inner (take self.count self.held) bs → result ≡ C.Compressor.digest bs }
-    {
+    fn end(self) -> [u8; 32] {
         let Buffered { inner, held, count } = self;
-        inner.finish(&held[0..count])
+        inner.finish(&held[..count])
     }
 }
 
 // Puts a piece behind the bytes held.
 fn hold(held: &mut [u8; 64], count: usize, piece: &[u8])
     requires { count + length piece.now ≤ 64 }
-    ensures { take (count + length piece.now) held.new ≡ take count held.old ++ piece.now }
+    ensures behind { take (count + length piece.now) held.new ≡ take count held.old ++ piece.now }
+    ensures long { length held.new ≡ 64 }
 {
     held[count..count + piece.len()].copy_from_slice(piece);
 }
 
-// Absorbs whole blocks as long as bytes are left behind them, and answers how many bytes went.
-fn absorb_blocks<C: Compressor>(inner: &mut C, piece: &[u8]) -> usize
-    requires { 1 ≤ length piece.now }
-    ensures left { (result < length piece.now) × (length piece.now ≤ result + 64) }
-    ensures absorbs { (bs : Bytes) → C.Compressor.absorbed inner.old bs → C.Compressor.absorbed inner.new (bs ++ take result piece.now) }
+// The blocks of a string but for its last 1 to 64 bytes, and these.
+#[tactic(auto, using(crate::proofs::Held::flat_chunks))]
+fn split_blocks(bytes: &[u8]) -> (&[[u8; 64]], &[u8])
+    requires { 1 ≤ length bytes.now }
+    ensures joined { flat_map (λ b. b) result.0.now ++ result.1.now ≡ bytes.now }
+    ensures some { 1 ≤ length result.1.now }
+    ensures short { length result.1.now ≤ 64 }
 {
-    let mut at = 0;
-    while piece.len() - at > 64 {
-        inner.absorb(&piece[at..at + 64]);
-        at += 64;
-    }
-    at
+    let (front, last) = bytes.split_at((bytes.len() - 1) / 64 * 64);
+    (front.as_chunks::<64>().0, last)
 }

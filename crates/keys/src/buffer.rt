@@ -8,5 +8,5 @@ pub(crate) fn put_front(out: &mut [u8], bytes: &[u8])
     ensures buffer { out.new ≡ bytes.now ++ drop (length bytes.now) out.old }
     ensures front { same (take (length bytes.now) out.new) bytes.now ≡ true }
 {
-    out[0..bytes.len()].copy_from_slice(bytes);
+    out[..bytes.len()].copy_from_slice(bytes);
 }

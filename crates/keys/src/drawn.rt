@@ -10,9 +10,11 @@ use answers::Refusal;
 pub struct Drawn {
     key: [u8; 8],
     number: u32,
+    // A flag and no second type: the drop asks for it, so that a lost number is a fact that fails, and each body that loses one can be tried.
     spent: bool,
 }
 
+// By hand, since a derived drop asks for nothing.
 impl Drop for Drawn {
     fn drop(self)
         requires { self.spent ≡ true }
@@ -41,20 +43,18 @@ impl Drawn {
 
 // Draws the next number.
 pub fn draw<S: Sealer>(sealer: &mut S) -> Result<Drawn, Refusal>
-    ensures answer { result ≡ token_answer (S.Sealer.key sealer.old) }
-    ensures afterwards { S.Sealer.key sealer.new ≡ key_after result (S.Sealer.key sealer.old) }
+    ensures answer { result ≡ token_answer (S.key sealer.old) }
+    ensures afterwards { S.key sealer.new ≡ key_after result (S.key sealer.old) }
     ensures unchanged { UnchangedIfRefused result sealer.new sealer.old }
-    ensures kept { Kept S.Inspector.kind S.Inspector.says S.Sealer.signature S.Sealer.owns sealer.old sealer.new }
+    ensures kept { Kept S.kind S.says S.signature S.owns sealer.old sealer.new }
 {
     let key = sealer.key_name();
-    match sealer.draw_number() {
-        Ok(number) => Ok(Drawn {
-            key,
-            number,
-            spent: false,
-        }),
-        Err(refusal) => Err(refusal),
-    }
+    let number = sealer.draw_number()?;
+    Ok(Drawn {
+        key,
+        number,
+        spent: false,
+    })
 }
 
 // Spends a number, and answers which it was.

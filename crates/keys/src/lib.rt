@@ -16,7 +16,7 @@ pub use tag::{TagInspector, TagKey};
 
 // Says yes or no to a signature, and to the same question always the same.
 pub trait Inspector {
-    // The number by which a seal names the kind of signature.
+    // The number by which a seal names the kind of signature. No enum: an inspector of another crate brings a number of its own.
     ghost kind: { Self → ℕ };
 
     // Yes or no to a number, a text and a signature.
@@ -60,34 +60,35 @@ pub trait Sealer: Inspector {
         ensures { owns self.now result };
 
     // The next number. `draw` makes a token of it, which cannot be lost: call that one.
+    // What its clauses say relates a sealer before and after, which no invariant of one sealer could: so `draw` and `sign_next` say it again.
     fn draw_number(&mut self) -> Result<u32, Refusal>
         ensures answer { result ≡ draw_answer (key self.old) }
         ensures afterwards { key self.new ≡ key_after result (key self.old) }
         ensures unchanged { UnchangedIfRefused result self.new self.old }
-        ensures kept { Kept Self.Inspector.kind Self.Inspector.says signature owns self.old self.new };
+        ensures kept { Kept Self.kind Self.says signature owns self.old self.new };
 
     // Writes the signature to a number that was drawn to the front of the buffer.
     fn sign(&self, number: u32, text: &[u8], out: &mut [u8]) -> Result<(), Refusal>
         ensures answer { result ≡ sign_answer (key self.now) number (length out.old) }
         ensures buffer { out.new ≡ buffer_after result (signature self.now number text.now) out.old }
-        ensures yes { OnOk result (Self.Inspector.says self.now number text.now (take (key self.now).size out.new) ≡ true) };
+        ensures yes { OnOk result (Self.says self.now number text.now (take (key self.now).size out.new) ≡ true) };
 
     ghost lawful: { (s : Self) → LawfulKey (key s) };
 
     ghost sized: { (s : Self) (number : ℕ) (text : Bytes) → length (signature s number text) ≡ (key s).size };
 
-    ghost genuine: { (s : Self) (number : ℕ) (text : Bytes) → number < (key s).next → Self.Inspector.says s number text (signature s number text) ≡ true };
+    ghost genuine: { (s : Self) (number : ℕ) (text : Bytes) → number < (key s).next → Self.says s number text (signature s number text) ≡ true };
 
-    ghost own_alike: { (s : Self) (o : Self.Own) → owns s o → (Self.Own.Inspector.kind o ≡ Self.Inspector.kind s) × (Self.Own.Inspector.says o ≡ Self.Inspector.says s) };
+    ghost own_alike: { (s : Self) (o : Self.Own) → owns s o → (Self.Own.kind o ≡ Self.kind s) × (Self.Own.says o ≡ Self.says s) };
 }
 
 // Signs a text under the next number, and answers what the sealer's own inspector says to the signature. That is yes, for every sealer.
 pub fn sign_next<S: Sealer>(sealer: &mut S, text: &[u8], out: &mut [u8]) -> Result<bool, Refusal>
-    ensures answer { result ≡ sign_next_answer (S.Sealer.key sealer.old) (length out.old) }
-    ensures afterwards { S.Sealer.key sealer.new ≡ key_after result (S.Sealer.key sealer.old) }
+    ensures answer { result ≡ sign_next_answer (S.key sealer.old) (length out.old) }
+    ensures afterwards { S.key sealer.new ≡ key_after result (S.key sealer.old) }
     ensures unchanged { UnchangedIfRefused result sealer.new sealer.old }
-    ensures kept { Kept S.Inspector.kind S.Inspector.says S.Sealer.signature S.Sealer.owns sealer.old sealer.new }
-    ensures buffer { out.new ≡ buffer_after result (S.Sealer.signature sealer.old (S.Sealer.key sealer.old).next text.now) out.old }
+    ensures kept { Kept S.kind S.says S.signature S.owns sealer.old sealer.new }
+    ensures buffer { out.new ≡ buffer_after result (S.signature sealer.old (S.key sealer.old).next text.now) out.old }
 {
     let size = sealer.signature_len();
     if out.len() < size {
@@ -97,7 +98,7 @@ pub fn sign_next<S: Sealer>(sealer: &mut S, text: &[u8], out: &mut [u8]) -> Resu
     let number = drawn.number();
     // This cannot refuse: the number is drawn, and there is room.
     let _ = sealer.sign(number, text, out);
-    let says = sealer.own().inspect(number, text, &out[0..size]);
+    let says = sealer.own().inspect(number, text, &out[..size]);
     burn(drawn);
     Ok(says)
 }

@@ -19,19 +19,10 @@ const SIZE: usize = 32;
 const LIMIT: u32 = 1_000_000;
 
 // Holds no digest: `D` only says which one the tag is made by.
+#[derive(Drop)]
 pub struct TagInspector<D> {
     secret: [u8; 32],
     digest: PhantomData<D>,
-}
-
-// Not derived, since that would ask that digests can be let go.
-impl<D> Drop for TagInspector<D> {
-    fn drop(self) {
-        let TagInspector {
-            secret: _,
-            digest: _,
-        } = self;
-    }
 }
 
 impl<D: Digest> TagInspector<D> {
@@ -46,7 +37,7 @@ impl<D: Digest> TagInspector<D> {
 
     // The tag to a text: the signature that it says yes to.
     fn tag(&self, text: &[u8]) -> [u8; 32]
-        ensures { result ≡ hmac_of D.Digest.digest D.Digest.block_of self.now.secret text.now }
+        ensures { result ≡ hmac_of D.digest D.BLOCK self.now.secret text.now }
     {
         hmac::<D>(&self.secret, text)
     }
@@ -55,7 +46,7 @@ impl<D: Digest> TagInspector<D> {
 impl<D: Digest> Inspector for TagInspector<D> {
     ghost kind = { λ _. 1 };
 
-    ghost says = { λ i _ text signature. tag_says D.Digest.digest D.Digest.block_of i.secret text signature };
+    ghost says = { λ i _ text signature. tag_says D.digest D.BLOCK i.secret text signature };
 
     ghost kind_range = { Prim.search rules };
 
@@ -69,22 +60,14 @@ impl<D: Digest> Inspector for TagInspector<D> {
 }
 
 // A key of 1,000,000 numbers, from 0 on.
+#[derive(Drop)]
 pub struct TagKey<D> {
     inspector: TagInspector<D>,
     name: [u8; 8],
     next: u32,
+    // A law sees the name as a list, whose length no type says.
     ghost eight: { length name ≡ 8 },
     ghost within: { next ≤ tag_limit },
-}
-
-impl<D> Drop for TagKey<D> {
-    fn drop(self) {
-        let TagKey {
-            inspector: _,
-            name: _,
-            next: _,
-        } = self;
-    }
 }
 
 impl<D: Digest> TagKey<D> {
@@ -106,7 +89,7 @@ impl<D: Digest> TagKey<D> {
 impl<D: Digest> Inspector for TagKey<D> {
     ghost kind = { λ _. 1 };
 
-    ghost says = { λ k _ text signature. tag_says D.Digest.digest D.Digest.block_of k.inspector.secret text signature };
+    ghost says = { λ k _ text signature. tag_says D.digest D.BLOCK k.inspector.secret text signature };
 
     ghost kind_range = { Prim.search rules };
 
@@ -124,7 +107,7 @@ impl<D: Digest> Sealer for TagKey<D> {
 
     ghost key = { λ k. tag_key k.name k.next };
 
-    ghost signature = { λ k _ text. hmac_of D.Digest.digest D.Digest.block_of k.inspector.secret text };
+    ghost signature = { λ k _ text. hmac_of D.digest D.BLOCK k.inspector.secret text };
 
     ghost owns = { λ k o. o.secret ≡ k.inspector.secret };
 
@@ -132,7 +115,7 @@ impl<D: Digest> Sealer for TagKey<D> {
 
     ghost sized = { Prim.search rules };
 
-    ghost genuine = { λ k number text drawn. same_self (hmac_of D.Digest.digest D.Digest.block_of k.inspector.secret text) };
+    ghost genuine = { λ k number text drawn. same_self (hmac_of D.digest D.BLOCK k.inspector.secret text) };
 
     ghost own_alike = { Prim.search rules };
 
@@ -141,11 +124,11 @@ impl<D: Digest> Sealer for TagKey<D> {
     }
 
     fn next_number(&self) -> u64 {
-        self.next as u64
+        u64::from(self.next)
     }
 
     fn count_left(&self) -> u64 {
-        (LIMIT - self.next) as u64
+        u64::from(LIMIT - self.next)
     }
 
     fn signature_len(&self) -> usize {

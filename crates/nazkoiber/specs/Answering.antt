@@ -1,9 +1,11 @@
 -- What each call answers, and the blocks after it. Assumes nothing.
-use Rattle.std.specs.Prelude.{◌≡◌, Bool, true, cond, List, [], ◌∷◌, ◌++◌, length, Some, None, Ok, Err, codes, decimal, Option, Result, ◌==◌}
+use Rattle.std.specs.Prelude.{◌≡◌, cond, List, [], ◌∷◌, ◌++◌, length, Some, None, Ok, Err, codes, decimal, Option, Result, String, string_bytes}
+use Rattle.std.specs.declared.alloc.Global.{Global}
 use Rattle.answers.specs.declared.Refusal.{Refusal}
 use Rattle.answers.specs.Refusals.{shown_as}
 use Rattle.scripts.specs.Words.{first_word}
 use Rattle.scripts.specs.Hex.{hex_text}
+use Rattle.scripts.specs.Lines.{silent, parts_behind}
 use Rattle.sheets.specs.Table.{Bytes}
 use Rattle.sheets.specs.Blocks.{blocks_of}
 use Rattle.sheets.specs.Calls.{total_bytes, with_block, lines, cut_answer, add_answer, rewrite_answer, block_answer, after}
@@ -36,11 +38,11 @@ blocks_after sheet bs = bs
 abbrev pub blocks : Bench → List Bytes
 blocks b = blocks_of b.sheet
 
--- The blocks are those after the call, and its answer stands behind the text; a refusal is yet to be written. Where memory is short, nothing is known.
-abbrev pub Answered : Told → List Bytes → List Bytes → Bytes → Bytes → Result (Unit {0}) Stop → Type 0
-Answered t old new before behind (Ok u) = (new ≡ blocks_after t old) × (behind ≡ before ++ answer_text t old)
-Answered t old new before behind (Err (Refused e)) = (new ≡ blocks_after t old) × (behind ≡ before) × (answer_text t old ≡ shown_as e)
-Answered t old new before behind (Err OutOfMemory) = Unit {0}
+-- The blocks are those after the call, with its answer; the text of a refusal is yet to be written. Where memory is short, nothing is known.
+abbrev pub Answered : Told → List Bytes → List Bytes → Result (String Global) Stop → Type 0
+Answered t old new (Ok s) = (new ≡ blocks_after t old) × (string_bytes s ≡ answer_text t old)
+Answered t old new (Err (Refused e)) = (new ≡ blocks_after t old) × (answer_text t old ≡ shown_as e)
+Answered t old new (Err (OutOfMemory e)) = Unit {0}
 
 -- the answer to a line that says a call, or none
 abbrev pub told_text : Option Told → List Bytes → Bytes
@@ -50,11 +52,6 @@ told_text (Some t) bs = answer_text t bs
 abbrev pub told_after : Option Told → List Bytes → List Bytes
 told_after None bs = bs
 told_after (Some t) bs = blocks_after t bs
-
--- an empty line, or a comment
-abbrev pub silent : Bytes → Bool
-silent [] = true
-silent (x ∷ xs) = x == 35
 
 -- what is printed of a line's first word and its answer
 abbrev pub printed : Bytes → Bytes → Bytes
@@ -67,16 +64,11 @@ line_text line bs = cond (silent line) [] (printed (first_word line) (told_text 
 unfoldable pub line_after : Bytes → List Bytes → List Bytes
 line_after line bs = cond (silent line) bs (told_after (line_told line) bs)
 
--- the lines of a script, of which the first has begun already; each but the last ends before a byte 0A
-unfoldable pub lines_behind : Bytes → Bytes → List Bytes
-lines_behind begun [] = begun ∷ []
-lines_behind begun (x ∷ xs) = cond (x == 10) (begun ∷ lines_behind [] xs) (lines_behind (begun ++ x ∷ []) xs)
-
 -- what lines print one after another
 unfoldable pub lines_text : List Bytes → List Bytes → Bytes
 lines_text [] bs = []
 lines_text (line ∷ rest) bs = line_text line bs ++ lines_text rest (line_after line bs)
 
--- what a script prints that begins with these blocks
+-- what a script prints that begins with these blocks; each line but the last ends before a byte 0A
 unfoldable pub script_text : Bytes → List Bytes → Bytes
-script_text script bs = lines_text (lines_behind [] script) bs
+script_text script bs = lines_text (parts_behind 10 [] script) bs

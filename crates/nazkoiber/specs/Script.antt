@@ -1,15 +1,12 @@
 -- What the lines of a script say. Assumes nothing.
-use Rattle.std.specs.Prelude.{◌≡◌, ℕ, cond, List, [], ◌∷◌, Some, None, Ok, Err, vec_items, codes, Option, Result}
+use Rattle.std.specs.Prelude.{ℕ, [], ◌∷◌, Some, None, vec_items, codes, Option}
 use Rattle.std.specs.Option.{option_map}
-use Rattle.std.specs.Str.{bytes_eq}
-use Rattle.scripts.specs.Words.{Bytes, first_word, behind_word, number_of}
-use Rattle.scripts.specs.Hex.{both, hex_bytes}
+use Rattle.scripts.specs.Words.{Bytes, first_word, behind_word, alone, entry_at, number_of}
+use Rattle.scripts.specs.Hex.{both, bytes_in}
 use Rattle.nazkoiber.specs.declared.call.Call.{Call}
 use Rattle.nazkoiber.specs.declared.call.Call.TheVariants as calls
 use Rattle.nazkoiber.specs.declared.call.Verb.{Verb}
 use Rattle.nazkoiber.specs.declared.call.Verb.TheVariants as verbs
-use Rattle.nazkoiber.specs.declared.call.ParseError.{ParseError}
-use Rattle.nazkoiber.specs.declared.call.ParseError.TheVariants.{NotUnderstood, OutOfMemory}
 
 -- a call, with the values of its words
 pub data Told : Type 0 where
@@ -28,29 +25,14 @@ told (calls.Rewrite number bytes) = rewrite number.0 (vec_items bytes)
 told (calls.Show number) = show number.0
 told calls.Sheet = sheet
 
--- what the table has at a word
-abbrev pub verb_in : List (Bytes × Verb) → Bytes → Option Verb
-verb_in [] word = None
-verb_in (entry ∷ table) word = cond (bytes_eq word entry.0) (Some entry.1) (verb_in table word)
-
 -- the first word of each call
 abbrev pub verb_of : Bytes → Option Verb
 verb_of =
-    verb_in
+    entry_at
     ((codes "clear", verbs.Clear)
     ∷ ((codes "cut", verbs.Cut)
     ∷ ((codes "add", verbs.Add)
     ∷ ((codes "rewrite", verbs.Rewrite) ∷ ((codes "show", verbs.Show) ∷ ((codes "sheet", verbs.Sheet) ∷ []))))))
-
--- no word more
-abbrev pub alone : {A : Type 0} → A → Option Bytes → Option A
-alone a None = Some a
-alone a (Some rest) = None
-
--- one word more, which is bytes
-abbrev pub bytes_in : Option Bytes → Option Bytes
-bytes_in None = None
-bytes_in (Some word) = hex_bytes word
 
 -- one word more, which is a block's number
 abbrev pub number_in : Option Bytes → Option ℕ
@@ -79,9 +61,3 @@ told_if (Some verb) rest = told_by verb rest
 -- the call that a line says, if it says one
 unfoldable pub line_told : Bytes → Option Told
 line_told line = told_if (verb_of (first_word line)) (behind_word line)
-
--- An answer is what was said, and is refused where nothing was; but memory may be short.
-abbrev pub Reads : {A B : Type 0} → (A → B) → Option B → Result A ParseError → Type 0
-Reads f said (Ok a) = said ≡ Some (f a)
-Reads f said (Err NotUnderstood) = said ≡ None
-Reads f said (Err OutOfMemory) = Unit {0}

@@ -1,21 +1,19 @@
 // What the calls of a script work on, and what they answer.
 ghost use Rattle.std.specs.Prelude.{◌≡◌, [], ◌++◌, IfOk, string_bytes, OnOk};
 ghost use Rattle.nazkoiber.specs.declared.bench.Stop.TheVariants.{Refused, OutOfMemory};
-ghost use Rattle.nazkoiber.specs.Script.{told, clear, cut, add, rewrite, show, sheet, line_told};
+ghost use Rattle.nazkoiber.specs.Script.{told, line_told};
 ghost use Rattle.nazkoiber.specs.Answering.{answer_text, blocks_after, blocks, Answered, told_text, told_after, printed, line_text, line_after, script_text};
 
-use crate::call::{Call, ParseError};
-use answers::{BlockNumber, Refusal};
-use scripts::{push_hex, split_word};
+use crate::call::Call;
+use answers::Refusal;
+use scripts::{Hex, ParseError, is_silent, split_word};
 use sheets::Sheet;
 use std::alloc::{AllocError, Global};
-use std::fmt;
-use std::fmt::Write;
 
 // The state that calls work on.
 #[derive(Drop)]
 struct Bench {
-    heap: Global,
+    alloc: Global,
     sheet: Sheet,
 }
 
@@ -23,7 +21,7 @@ struct Bench {
 #[derive(Clone, Copy)]
 enum Stop {
     Refused(Refusal),
-    OutOfMemory,
+    OutOfMemory(AllocError),
 }
 
 impl From<Refusal> for Stop {
@@ -35,60 +33,48 @@ impl From<Refusal> for Stop {
 }
 
 impl From<AllocError> for Stop {
-    ghost from_gives = { λ _ s. s ≡ OutOfMemory };
+    ghost from_gives = { λ e s. s ≡ OutOfMemory e };
 
-    fn from(_error: AllocError) -> Stop {
-        Stop::OutOfMemory
-    }
-}
-
-// Text is written to memory only.
-impl From<fmt::Error> for Stop {
-    ghost from_gives = { λ _ s. s ≡ OutOfMemory };
-
-    fn from(_error: fmt::Error) -> Stop {
-        Stop::OutOfMemory
+    fn from(error: AllocError) -> Stop {
+        Stop::OutOfMemory(error)
     }
 }
 
 // What a script prints. It begins with an empty sheet.
-pub fn replay(heap: Global, script: &[u8]) -> Result<Vec<u8>, AllocError>
+pub fn replay(alloc: Global, script: &[u8]) -> Result<Vec<u8>, AllocError>
     ensures { IfOk result (λ out. out.items ≡ script_text script.now []) }
 {
-    let mut bench = Bench::new(heap)?;
-    let mut out = Vec::new(heap);
+    let mut bench = Bench::new(alloc)?;
+    let mut out = Vec::new(alloc);
     bench.run_script(script, &mut out)?;
     Ok(out)
 }
 
 impl Bench {
-    fn new(heap: Global) -> Result<Bench, AllocError>
+    fn new(alloc: Global) -> Result<Bench, AllocError>
         ensures { IfOk result (λ b. blocks b ≡ []) }
     {
-        let sheet = Sheet::new(heap)?;
-        Ok(Bench { heap, sheet })
+        let sheet = Sheet::new(alloc)?;
+        Ok(Bench { alloc, sheet })
     }
 
     // Runs a script, and appends a line for each call.
     fn run_script(&mut self, script: &[u8], out: &mut Vec<u8>) -> Result<(), AllocError>
         ensures { OnOk result (out.new.items ≡ out.old.items ++ script_text script.now (blocks self.old)) }
     {
-        let mut start = 0;
-        for end in 0..script.len() {
-            if script[end] == b'\n' {
-                self.run_line(&script[start..end], out)?;
-                start = end + 1;
-            }
+        for line in script.split(|byte| *byte == b'\n') {
+            self.run_line(line, out)?;
         }
-        self.run_line(&script[start..], out)
+        Ok(())
     }
 
     // Runs one line, and appends its first word with what it answers. Empty lines and comments print nothing.
+    #[tactic(auto, unfolding(crate::specs::Answering::line_text, crate::specs::Answering::line_after))]
     fn run_line(&mut self, line: &[u8], out: &mut Vec<u8>) -> Result<(), AllocError>
         ensures after { OnOk result (blocks self.new ≡ line_after line.now (blocks self.old)) }
         ensures text { OnOk result (out.new.items ≡ out.old.items ++ line_text line.now (blocks self.old)) }
     {
-        if line.is_empty() || line[0] == b'#' {
+        if is_silent(line) {
             return Ok(());
         }
         let answer = self.answer_line(line)?;
@@ -101,98 +87,56 @@ impl Bench {
         ensures after { OnOk result (blocks self.new ≡ told_after (line_told line.now) (blocks self.old)) }
         ensures text { IfOk result (λ s. string_bytes s ≡ told_text (line_told line.now) (blocks self.old)) }
     {
-        match Call::parse(self.heap, line) {
-            Ok(call) => {
-                let mut answer = String::new(self.heap);
-                self.run(&call, &mut answer)?;
-                Ok(answer)
-            }
-            Err(ParseError::NotUnderstood) => String::from_str(self.heap, "not understood"),
-            Err(ParseError::OutOfMemory) => Err(AllocError),
+        match Call::parse(self.alloc, line) {
+            Ok(call) => self.run(&call),
+            Err(ParseError::OutOfMemory(error)) => Err(error),
+            Err(error) => format!(in self.alloc; "{error}"),
         }
     }
 
-    // Runs one call, and appends its answer or its refusal.
-    fn run(&mut self, call: &Call, answer: &mut String) -> Result<(), AllocError>
+    // A refusal is an answer too.
+    fn run(&mut self, call: &Call) -> Result<String, AllocError>
         ensures after { OnOk result (blocks self.new ≡ blocks_after (told call.now) (blocks self.old)) }
-        ensures text { OnOk result (string_bytes answer.new ≡ string_bytes answer.old ++ answer_text (told call.now) (blocks self.old)) }
+        ensures text { IfOk result (λ s. string_bytes s ≡ answer_text (told call.now) (blocks self.old)) }
     {
-        match self.answer(call, answer) {
-            Ok(()) => Ok(()),
-            Err(Stop::Refused(refusal)) => match write!(answer, "{refusal}") {
-                Ok(()) => Ok(()),
-                Err(_) => Err(AllocError),
-            },
-            Err(Stop::OutOfMemory) => Err(AllocError),
+        match self.answer(call) {
+            Ok(answer) => Ok(answer),
+            Err(Stop::Refused(refusal)) => format!(in self.alloc; "{refusal}"),
+            Err(Stop::OutOfMemory(error)) => Err(error),
         }
     }
 
-    fn answer(&mut self, call: &Call, answer: &mut String) -> Result<(), Stop>
-        ensures { Answered (told call.now) (blocks self.old) (blocks self.new) (string_bytes answer.old) (string_bytes answer.new) result }
+    fn answer(&mut self, call: &Call) -> Result<String, Stop>
+        ensures { Answered (told call.now) (blocks self.old) (blocks self.new) result }
     {
+        let alloc = self.alloc;
         match call {
-            Call::Clear => self.clear(answer),
-            Call::Cut(text) => self.cut(text, answer),
-            Call::Add(bytes) => self.add(bytes, answer),
-            Call::Rewrite(number, bytes) => self.rewrite(*number, bytes, answer),
-            Call::Show(number) => self.show(*number, answer),
-            Call::Sheet => self.show_sheet(answer),
+            Call::Clear => {
+                self.sheet = Sheet::new(alloc)?;
+                Ok(String::from_str(alloc, "ok")?)
+            }
+            Call::Cut(text) => {
+                let count = self.sheet.cut(text)?;
+                Ok(format!(in alloc; "blocks {count}")?)
+            }
+            Call::Add(bytes) => {
+                let number = self.sheet.add(bytes)?.0;
+                Ok(format!(in alloc; "block {number}")?)
+            }
+            Call::Rewrite(number, bytes) => {
+                let total = self.sheet.rewrite(*number, bytes)?;
+                Ok(format!(in alloc; "total {total}")?)
+            }
+            Call::Show(number) => {
+                let block = Hex(self.sheet.block(*number)?);
+                Ok(format!(in alloc; "block {block}")?)
+            }
+            Call::Sheet => {
+                let count = self.sheet.block_count();
+                let total = self.sheet.total();
+                Ok(format!(in alloc; "blocks {count} total {total}")?)
+            }
         }
-    }
-
-    fn clear(&mut self, answer: &mut String) -> Result<(), Stop>
-        ensures { Answered clear (blocks self.old) (blocks self.new) (string_bytes answer.old) (string_bytes answer.new) result }
-    {
-        self.sheet = Sheet::new(self.heap)?;
-        answer.push_str("ok")?;
-        Ok(())
-    }
-
-    fn cut(&mut self, text: &[u8], answer: &mut String) -> Result<(), Stop>
-        ensures { Answered (cut text.now) (blocks self.old) (blocks self.new) (string_bytes answer.old) (string_bytes answer.new) result }
-    {
-        let count = self.sheet.cut(text)?;
-        write!(answer, "blocks {count}")?;
-        Ok(())
-    }
-
-    fn add(&mut self, bytes: &[u8], answer: &mut String) -> Result<(), Stop>
-        ensures { Answered (add bytes.now) (blocks self.old) (blocks self.new) (string_bytes answer.old) (string_bytes answer.new) result }
-    {
-        let number = self.sheet.add(bytes)?.0;
-        write!(answer, "block {number}")?;
-        Ok(())
-    }
-
-    fn rewrite(
-        &mut self,
-        number: BlockNumber,
-        bytes: &[u8],
-        answer: &mut String,
-    ) -> Result<(), Stop>
-        ensures { Answered (rewrite number.0 bytes.now) (blocks self.old) (blocks self.new) (string_bytes answer.old) (string_bytes answer.new) result }
-    {
-        let total = self.sheet.rewrite(number, bytes)?;
-        write!(answer, "total {total}")?;
-        Ok(())
-    }
-
-    fn show(&mut self, number: BlockNumber, answer: &mut String) -> Result<(), Stop>
-        ensures { Answered (show number.0) (blocks self.old) (blocks self.new) (string_bytes answer.old) (string_bytes answer.new) result }
-    {
-        let block = self.sheet.block(number)?;
-        answer.push_str("block ")?;
-        push_hex(answer, block)?;
-        Ok(())
-    }
-
-    fn show_sheet(&mut self, answer: &mut String) -> Result<(), Stop>
-        ensures { Answered sheet (blocks self.old) (blocks self.new) (string_bytes answer.old) (string_bytes answer.new) result }
-    {
-        let count = self.sheet.block_count();
-        let total = self.sheet.total();
-        write!(answer, "blocks {count} total {total}")?;
-        Ok(())
     }
 }
 

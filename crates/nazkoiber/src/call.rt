@@ -1,11 +1,11 @@
 // The calls of a script. A line is taken apart as a whole before anything is called.
-ghost use Rattle.std.specs.Prelude.{◌≡◌, vec_items};
-ghost use Rattle.std.specs.Option.{option_map};
-ghost use Rattle.std.specs.Str.{bytes_eq};
-ghost use Rattle.nazkoiber.specs.Script.{rewrite, told, verb_of, alone, bytes_in, number_in, number_bytes_in, told_by, line_told, Reads};
+ghost use Rattle.std.specs.Prelude.{◌≡◌};
+ghost use Rattle.scripts.specs.Words.{number_of};
+ghost use Rattle.scripts.specs.Reading.{Reads};
+ghost use Rattle.nazkoiber.specs.Script.{told, verb_of, told_by, line_told};
 
 use answers::BlockNumber;
-use scripts::{decode_hex, parse_number, split_word};
+use scripts::{ParseError, Words, decode_hex, look_up, parse_number};
 use std::alloc::Global;
 
 // The largest block number that a script can name.
@@ -22,13 +22,6 @@ pub enum Call {
     Sheet,
 }
 
-// Why a line gave no call.
-#[derive(Clone, Copy)]
-pub enum ParseError {
-    NotUnderstood,
-    OutOfMemory,
-}
-
 // The first word of a line.
 #[derive(Clone, Copy)]
 enum Verb {
@@ -41,14 +34,14 @@ enum Verb {
 }
 
 impl Call {
-    pub fn parse(heap: Global, line: &[u8]) -> Result<Call, ParseError>
+    #[tactic(auto, unfolding(crate::specs::Script::line_told))]
+    pub fn parse(alloc: Global, line: &[u8]) -> Result<Call, ParseError>
         ensures { Reads told (line_told line.now) result }
     {
-        let (word, rest) = split_word(line);
-        match Verb::named(word) {
-            Some(verb) => verb.parse_rest(heap, rest),
-            None => Err(ParseError::NotUnderstood),
-        }
+        let mut words = Words::new(line);
+        let word = words.next()?;
+        let verb = Verb::named(word).ok_or(ParseError::NotUnderstood)?;
+        verb.parse_rest(alloc, words)
     }
 }
 
@@ -56,86 +49,38 @@ impl Verb {
     fn named(word: &[u8]) -> Option<Verb>
         ensures { result ≡ verb_of word.now }
     {
-        if is(word, b"clear") {
-            Some(Verb::Clear)
-        } else if is(word, b"cut") {
-            Some(Verb::Cut)
-        } else if is(word, b"add") {
-            Some(Verb::Add)
-        } else if is(word, b"rewrite") {
-            Some(Verb::Rewrite)
-        } else if is(word, b"show") {
-            Some(Verb::Show)
-        } else if is(word, b"sheet") {
-            Some(Verb::Sheet)
-        } else {
-            None
-        }
+        let table = [
+            ("clear", Verb::Clear),
+            ("cut", Verb::Cut),
+            ("add", Verb::Add),
+            ("rewrite", Verb::Rewrite),
+            ("show", Verb::Show),
+            ("sheet", Verb::Sheet),
+        ];
+        look_up(&table, word)
     }
 
-    // Takes apart what stands behind the space after the first word.
-    fn parse_rest(self, heap: Global, rest: Option<&[u8]>) -> Result<Call, ParseError>
-        ensures { Reads told (told_by self (option_map (λ x. x.now) rest.entry)) result }
+    // Takes apart what stands behind the first word.
+    fn parse_rest(self, alloc: Global, mut words: Words) -> Result<Call, ParseError>
+        ensures { Reads told (told_by self words.entry) result }
     {
         match self {
-            Verb::Clear => only(Call::Clear, rest),
-            Verb::Cut => Ok(Call::Cut(read_bytes(heap, rest)?)),
-            Verb::Add => Ok(Call::Add(read_bytes(heap, rest)?)),
-            Verb::Rewrite => parse_rewrite(heap, rest),
-            Verb::Show => Ok(Call::Show(read_number(rest)?)),
-            Verb::Sheet => only(Call::Sheet, rest),
+            Verb::Clear => words.end(Call::Clear),
+            Verb::Cut => Ok(Call::Cut(decode_hex(alloc, words.last()?)?)),
+            Verb::Add => Ok(Call::Add(decode_hex(alloc, words.last()?)?)),
+            Verb::Rewrite => {
+                let number = block_number(words.next()?)?;
+                Ok(Call::Rewrite(number, decode_hex(alloc, words.last()?)?))
+            }
+            Verb::Show => Ok(Call::Show(block_number(words.last()?)?)),
+            Verb::Sheet => words.end(Call::Sheet),
         }
     }
 }
 
-fn is(word: &[u8], name: &[u8]) -> bool
-    ensures { result ≡ bytes_eq word.now name.now }
+fn block_number(digits: &[u8]) -> Result<BlockNumber, ParseError>
+    ensures { Reads (λ b. b.0) (number_of digits.now 65535) result }
 {
-    word == name
-}
-
-// The call of a line whose first word is all that it has.
-fn only(call: Call, rest: Option<&[u8]>) -> Result<Call, ParseError>
-    ensures { Reads told (alone (told call) (option_map (λ x. x.now) rest.entry)) result }
-{
-    match rest {
-        Some(_) => Err(ParseError::NotUnderstood),
-        None => Ok(call),
-    }
-}
-
-fn parse_rewrite(heap: Global, rest: Option<&[u8]>) -> Result<Call, ParseError>
-    ensures { Reads told (number_bytes_in rewrite (option_map (λ x. x.now) rest.entry)) result }
-{
-    let Some(words) = rest else {
-        return Err(ParseError::NotUnderstood);
-    };
-    let (number, hex) = split_word(words);
-    let number = read_number(Some(number))?;
-    Ok(Call::Rewrite(number, read_bytes(heap, hex)?))
-}
-
-fn read_bytes(heap: Global, word: Option<&[u8]>) -> Result<Vec<u8>, ParseError>
-    ensures { Reads vec_items (bytes_in (option_map (λ x. x.now) word.entry)) result }
-{
-    let Some(hex) = word else {
-        return Err(ParseError::NotUnderstood);
-    };
-    match decode_hex(heap, hex) {
-        Ok(Some(bytes)) => Ok(bytes),
-        Ok(None) => Err(ParseError::NotUnderstood),
-        Err(_) => Err(ParseError::OutOfMemory),
-    }
-}
-
-fn read_number(word: Option<&[u8]>) -> Result<BlockNumber, ParseError>
-    ensures { Reads (λ b. b.0) (number_in (option_map (λ x. x.now) word.entry)) result }
-{
-    let Some(digits) = word else {
-        return Err(ParseError::NotUnderstood);
-    };
-    match parse_number(digits, MAX_NUMBER) {
-        Some(number) => Ok(BlockNumber(number as u16)),
-        None => Err(ParseError::NotUnderstood),
-    }
+    let number = parse_number(digits, MAX_NUMBER).ok_or(ParseError::NotUnderstood)?;
+    Ok(BlockNumber(number as u16))
 }

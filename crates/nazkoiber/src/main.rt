@@ -23,9 +23,9 @@ fn main(rt: HostRuntime) -> io::Result<ExitCode> {
 }
 
 fn run(rt: &HostRuntime) -> io::Result<()> {
-    let heap = rt.alloc();
-    let mut script = Vec::new(heap);
+    let alloc = rt.alloc();
+    let mut script = Vec::new(alloc);
     let _ = rt.stdin().read_to_end(&mut script)?;
-    let out = replay(heap, &script)?;
+    let out = replay(alloc, &script)?;
     rt.stdout().write_all(&out)
 }

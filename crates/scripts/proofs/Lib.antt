@@ -1,2 +1,3 @@
-mod Words
-mod Hex
+pub mod WordLemmas
+pub mod HexLemmas
+pub mod LineLemmas

@@ -32,6 +32,10 @@ hex_bytes (x ∷ (y ∷ xs)) = pairs_bytes (x ∷ (y ∷ xs))
 abbrev pub hex_digit : ℕ → ℕ
 hex_digit d = cond (nat_lt d 10) (48 + d) (87 + d)
 
+-- the two digits of a byte
+abbrev pub pair_text : ℕ → Bytes
+pair_text b = hex_digit (b / 16) ∷ (hex_digit (b % 16) ∷ [])
+
 -- two digits for each byte
 unfoldable pub pairs_text : Bytes → Bytes
 pairs_text [] = []
@@ -41,3 +45,8 @@ pairs_text (b ∷ bs) = hex_digit (b / 16) ∷ (hex_digit (b % 16) ∷ pairs_tex
 unfoldable pub hex_text : Bytes → Bytes
 hex_text [] = 45 ∷ []
 hex_text (b ∷ bs) = pairs_text (b ∷ bs)
+
+-- one word more, which is bytes
+abbrev pub bytes_in : Option Bytes → Option Bytes
+bytes_in None = None
+bytes_in (Some word) = hex_bytes word

@@ -1,6 +1,7 @@
 -- Rounds with the sums of constants and words.
 use Rattle.std.proofs.Common.{◌≡◌, ℕ, ◌+◌, ◌%◌, ◌^◌, List, [], ◌∷◌, ◌++◌, length, get_or, sym, refl, ap, ◌∙◌, arith}
 use lib.Lanes.{zip2}
+use Rattle.std.proofs.lemmas.Simd.{pick_l_whole}
 use Rattle.sha256.specs.declared.state.State.{State}
 use Rattle.sha256.specs.Parts.{summed_round}
 use Rattle.sha256.specs.Sha256.{plus, Σ0, Σ1, Ch, Maj, round_of, rounds}
@@ -16,12 +17,7 @@ round_summed s k w =
 
 -- a list of four, written out
 pub four : (xs : List ℕ) → length xs ≡ 4 → xs ≡ get_or xs 0 0 ∷ (get_or xs 1 0 ∷ (get_or xs 2 0 ∷ (get_or xs 3 0 ∷ [])))
-four [] e = absurd (omega arith)
-four (a ∷ []) e = absurd (omega arith)
-four (a ∷ (b ∷ [])) e = absurd (omega arith)
-four (a ∷ (b ∷ (c ∷ []))) e = absurd (omega arith)
-four (a ∷ (b ∷ (c ∷ (d ∷ [])))) e = refl
-four (a ∷ (b ∷ (c ∷ (d ∷ (x ∷ xs))))) e = absurd (omega arith)
+four xs e = sym (pick_l_whole 0 xs 4 e)
 
 four_at : (s : State) (k0 k1 k2 k3 w0 w1 w2 w3 : ℕ)
     → rounds (k0 ∷ (k1 ∷ (k2 ∷ (k3 ∷ [])))) (w0 ∷ (w1 ∷ (w2 ∷ (w3 ∷ [])))) s

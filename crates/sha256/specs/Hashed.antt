@@ -23,10 +23,6 @@ pub one_block : (bs : Bytes) (s : State) → length bs ≡ 64 → hashed 1 bs s 
 unfolding hashed
 one_block bs s e = ap (compressed s) (take_all 64 bs (omega arith))
 
-pub two_blocks : (bs : Bytes) (s : State) → hashed 2 bs s ≡ compressed (compressed s (take 64 bs)) (take 64 (drop 64 bs))
-unfolding hashed
-two_blocks bs s = refl
-
 -- one block more
 pub block_more : (bs block : Bytes) → length bs % 64 ≡ 0 → length block ≡ 64
     → compressed (hashed (length bs / 64) bs initial) block ≡ hashed (length (bs ++ block) / 64) (bs ++ block) initial
@@ -63,17 +59,6 @@ finished bs last count message whole is size =
     ap (λ t. state_bytes (hashed (length (last ++ t) / 64) (last ++ t) (hashed m bs initial))) pads
     ∙ ap state_bytes (sym (ap (λ k. hashed k (bs ++ end) initial) blocks ∙ hashed_append m (length end / 64) bs end initial (omega arith)))
     ∙ ap (λ t. state_bytes (hashed (length t / 64) t initial)) (sym joined)
-
--- the padded end, by its count of bytes
-pub padding_is : (n count size : ℕ) → n % 64 ≡ count % 64 → (119 - count % 64) % 64 ≡ size - 9 - count → padding n ≡ 0x80 ∷ (replicate (size - 9 - count) 0 ++ u64_bytes (8 * n % 2 ^ 64))
-unfolding padding
-padding_is n count size e f = ap (λ k. 0x80 ∷ (replicate ((119 - k) % 64) 0 ++ u64_bytes (8 * n % 2 ^ 64))) e ∙ ap (λ k. 0x80 ∷ (replicate k 0 ++ u64_bytes (8 * n % 2 ^ 64))) f
-
--- its blocks
-pub ends : (last blocks : Bytes) (n size : ℕ) (s : State) → n % 64 ≡ length last % 64 → (119 - length last % 64) % 64 ≡ size - 9 - length last
-    → take size blocks ≡ last ++ (0x80 ∷ (replicate (size - 9 - length last) 0 ++ u64_bytes (8 * n % 2 ^ 64)))
-    → hashed (length (take size blocks) / 64) (take size blocks) s ≡ hashed (length (last ++ padding n) / 64) (last ++ padding n) s
-ends last blocks n size s e f is = ap (λ t. hashed (length t / 64) t s) (is ∙ ap (λ t. last ++ t) (sym (padding_is n (length last) size e f)))
 
 pub length_sha256_of : (bs : Bytes) → length (sha256_of bs) ≡ 32
 unfolding state_bytes sha256_of

@@ -1,5 +1,5 @@
 // One block: its words, the schedule, the rounds.
-ghost use Rattle.std.specs.Prelude.{◌≡◌, ◌+◌, ◌≤◌, ◌++◌, length};
+ghost use Rattle.std.specs.Prelude.{◌≡◌, ◌+◌, ◌≤◌, ◌++◌};
 ghost use Rattle.sha256.specs.Sha256.{added, compressed, word_at, words_from, words};
 
 use crate::rounds::sixteen_rounds;
@@ -8,12 +8,11 @@ use crate::state::State;
 use std::simd::prelude::*;
 
 // The hash value after one block more.
-pub fn compress(s: State, block: &[u8]) -> State
-    requires { length block.now ≡ 64 }
+pub fn compress(s: State, block: &[u8; 64]) -> State
     ensures { result ≡ compressed s block.now }
 {
     let w = load(block);
-    let t = sixteen_rounds::<0>(
+    let t = sixteen_rounds(
         s,
         w,
         [0x428a2f98, 0x71374491, 0xb5c0fbcf, 0xe9b5dba5],
@@ -22,7 +21,7 @@ pub fn compress(s: State, block: &[u8]) -> State
         [0x72be5d74, 0x80deb1fe, 0x9bdc06a7, 0xc19bf174],
     );
     let w = next_sixteen(w);
-    let t = sixteen_rounds::<16>(
+    let t = sixteen_rounds(
         t,
         w,
         [0xe49b69c1, 0xefbe4786, 0x0fc19dc6, 0x240ca1cc],
@@ -31,7 +30,7 @@ pub fn compress(s: State, block: &[u8]) -> State
         [0xc6e00bf3, 0xd5a79147, 0x06ca6351, 0x14292967],
     );
     let w = next_sixteen(w);
-    let t = sixteen_rounds::<32>(
+    let t = sixteen_rounds(
         t,
         w,
         [0x27b70a85, 0x2e1b2138, 0x4d2c6dfc, 0x53380d13],
@@ -40,7 +39,7 @@ pub fn compress(s: State, block: &[u8]) -> State
         [0xd192e819, 0xd6990624, 0xf40e3585, 0x106aa070],
     );
     let w = next_sixteen(w);
-    let t = sixteen_rounds::<48>(
+    let t = sixteen_rounds(
         t,
         w,
         [0x19a4c116, 0x1e376c08, 0x2748774c, 0x34b0bcb5],
@@ -67,8 +66,8 @@ fn sum(s: State, t: State) -> State
 }
 
 // The sixteen words of a block.
-fn load(block: &[u8]) -> Words
-    requires { length block.now ≡ 64 }
+#[tactic(auto, unfolding(crate::specs::Sha256::words))]
+fn load(block: &[u8; 64]) -> Words
     ensures { result.0 ++ (result.1 ++ (result.2 ++ result.3)) ≡ words block.now }
 {
     Words(
@@ -79,8 +78,8 @@ fn load(block: &[u8]) -> Words
     )
 }
 
-fn four_words(block: &[u8], at: usize) -> u32x4
-    requires { at + 16 ≤ length block.now }
+fn four_words(block: &[u8; 64], at: usize) -> u32x4
+    requires { at + 16 ≤ 64 }
     ensures { result ≡ words_from 4 at block.now }
 {
     u32x4::from_array([
@@ -91,8 +90,8 @@ fn four_words(block: &[u8], at: usize) -> u32x4
     ])
 }
 
-fn word(block: &[u8], at: usize) -> u32
-    requires { at + 4 ≤ length block.now }
+fn word(block: &[u8; 64], at: usize) -> u32
+    requires { at + 4 ≤ 64 }
     ensures { result ≡ word_at block.now at }
 {
     u32::from_be_bytes([block[at], block[at + 1], block[at + 2], block[at + 3]])

@@ -1,12 +1,13 @@
 // The hash value over whole blocks, and the padding of the last bytes.
-ghost use Rattle.std.specs.Prelude.{◌≡◌, ◌+◌, ◌-◌, ◌*◌, ◌/◌, ◌%◌, ◌^◌, ◌≤◌, [], ◌∷◌, ◌++◌, length, take, replicate};
+ghost use Rattle.std.proofs.Common.{rules};
+ghost use Rattle.std.specs.Prelude.{◌≡◌, ◌+◌, ◌-◌, ◌*◌, ◌/◌, ◌%◌, ◌^◌, ◌≤◌, [], ◌∷◌, ◌++◌, length, replicate};
 ghost use Rattle.sha256.specs.Absorbed.{Absorbed};
-ghost use Rattle.sha256.specs.Sha256.{initial, u64_bytes, padding, hashed, state_bytes, sha256_of};
+ghost use Rattle.sha256.specs.Sha256.{initial, compressed, u64_bytes, padding, hashed, state_bytes, sha256_of};
 ghost use Rattle.sha256.specs.Hashed.{length_sha256_of};
 
 use crate::block::compress;
 use crate::state::State;
-use digests::Compressor;
+use digests::{Compressor, join_words};
 
 // A hash value, and how many bytes went into it, modulo 2^64.
 pub struct Chain {
@@ -15,12 +16,19 @@ pub struct Chain {
 }
 
 impl Compressor for Chain {
+    const KIND: u8 = 1;
+
+    ghost KIND = { 1 };
+
     ghost digest = { sha256_of };
 
     ghost absorbed = { Absorbed };
 
+    ghost kind_range = { Prim.search rules };
+
     ghost thirty_two = { length_sha256_of };
 
+    #[tactic(auto, unfolding(crate::specs::Sha256::hashed))]
     fn begin() -> Chain {
         Chain {
             state: initial_state(),
@@ -28,15 +36,24 @@ impl Compressor for Chain {
         }
     }
 
-    fn absorb(&mut self, block: &[u8]) {
-        self.state = compress(self.state, block);
-        self.count = self.count.wrapping_add(64);
+    fn absorb(&mut self, block: &[u8; 64]) {
+        self.step(block);
     }
 
     fn finish(self, last: &[u8]) -> [u8; 32] {
         let Chain { state, count } = self;
         let length = count.wrapping_add(last.len() as u64);
         big_endian(last_blocks(state, last, length))
+    }
+}
+
+impl Chain {
+    fn step(&mut self, block: &[u8; 64])
+        ensures counted { self.new.count ≡ (self.old.count + 64) % 2 ^ 64 }
+        ensures value { self.new.state ≡ compressed self.old.state block.now }
+    {
+        self.state = compress(self.state, block);
+        self.count = self.count.wrapping_add(64);
     }
 }
 
@@ -61,47 +78,39 @@ fn last_blocks(state: State, last: &[u8], message: u64) -> State
     ensures { message % 64 ≡ length last.now % 64 → result ≡ hashed (length (last.now ++ padding message) / 64) (last.now ++ padding message) state }
 {
     if last.len() < 56 {
-        let blocks = padded(last, message, 64);
-        return compress(state, &blocks[0..64]);
+        compress_all(state, &padded::<64>(last, message))
+    } else {
+        compress_all(state, &padded::<128>(last, message))
     }
-    let blocks = padded(last, message, 128);
-    let state = compress(state, &blocks[0..64]);
-    compress(state, &blocks[64..128])
 }
 
-fn padded(last: &[u8], message: u64, size: usize) -> [u8; 128]
-    requires { (length last.now + 9 ≤ size) × (size ≤ 128) }
-    ensures { take size result ≡ last.now ++ (0x80 ∷ (replicate (size - 9 - length last.now) 0 ++ u64_bytes (8 * message % 2 ^ 64))) }
+// The hash value after the whole blocks of some bytes.
+fn compress_all(state: State, bytes: &[u8]) -> State
+    ensures { result ≡ hashed (length bytes.now / 64) bytes.now state }
 {
-    let mut blocks = [0; 128];
-    write_padded(&mut blocks, last, message, size);
-    blocks
+    bytes
+        .as_chunks::<64>()
+        .0
+        .iter()
+        .fold(state, |s, block| compress(s, block))
 }
 
-fn write_padded(blocks: &mut [u8; 128], last: &[u8], message: u64, size: usize)
-    requires { (length last.now + 9 ≤ size) × (size ≤ 128) × (blocks.old ≡ replicate 128 0) }
-    ensures { take size blocks.new ≡ last.now ++ (0x80 ∷ (replicate (size - 9 - length last.now) 0 ++ u64_bytes (8 * message % 2 ^ 64))) }
+// The last bytes of a message of some length, padded to N bytes.
+fn padded<const N: usize>(last: &[u8], message: u64) -> [u8; N]
+    requires { length last.now + 9 ≤ N }
+    ensures { result ≡ last.now ++ (0x80 ∷ (replicate (N - 9 - length last.now) 0 ++ u64_bytes (8 * message % 2 ^ 64))) }
 {
-    blocks[0..last.len()].copy_from_slice(last);
-    blocks[last.len()] = 0x80;
-    blocks[size - 8..size].copy_from_slice(&message.wrapping_mul(8).to_be_bytes());
+    let mut block = [0; N];
+    let bytes = &mut block[..];
+    bytes[..last.len()].copy_from_slice(last);
+    bytes[last.len()] = 0x80;
+    bytes[N - 8..].copy_from_slice(&message.wrapping_mul(8).to_be_bytes());
+    block
 }
 
 // The eight words, highest byte first.
 fn big_endian(s: State) -> [u8; 32]
     ensures { result ≡ state_bytes s }
 {
-    let a = s.a.to_be_bytes();
-    let b = s.b.to_be_bytes();
-    let c = s.c.to_be_bytes();
-    let d = s.d.to_be_bytes();
-    let e = s.e.to_be_bytes();
-    let f = s.f.to_be_bytes();
-    let g = s.g.to_be_bytes();
-    let h = s.h.to_be_bytes();
-    [
-        a[0], a[1], a[2], a[3], b[0], b[1], b[2], b[3], c[0], c[1], c[2], c[3], d[0], d[1], d[2],
-        d[3], e[0], e[1], e[2], e[3], f[0], f[1], f[2], f[3], g[0], g[1], g[2], g[3], h[0], h[1],
-        h[2], h[3],
-    ]
+    join_words([s.a, s.b, s.c, s.d, s.e, s.f, s.g, s.h].map(u32::to_be_bytes))
 }

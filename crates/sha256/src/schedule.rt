@@ -1,7 +1,7 @@
 // The message schedule, four words at a time.
-ghost use Rattle.std.specs.Prelude.{◌≡◌, ◌*◌, ◌/◌, ◌%◌, ◌^◌, ◌<◌, ◌++◌, map, bit_or};
+ghost use Rattle.std.specs.Prelude.{◌≡◌, ◌<◌, ◌++◌, map, bit_xor};
 ghost use Rattle.sha256.specs.Parts.{four_more, sixteen_more};
-ghost use Rattle.sha256.specs.Sha256.{σ0, σ1};
+ghost use Rattle.sha256.specs.Sha256.{rotr, shr};
 
 use std::simd::prelude::*;
 
@@ -10,6 +10,7 @@ use std::simd::prelude::*;
 pub struct Words(pub u32x4, pub u32x4, pub u32x4, pub u32x4);
 
 // The sixteen words that follow sixteen.
+#[tactic(auto, using(crate::proofs::Extended::by_fours))]
 pub fn next_sixteen(w: Words) -> Words
     ensures { result.0 ++ (result.1 ++ (result.2 ++ result.3)) ≡ sixteen_more (w.0 ++ (w.1 ++ (w.2 ++ w.3))) }
 {
@@ -25,27 +26,27 @@ fn next_four(w: Words) -> u32x4
     ensures { result ≡ four_more (w.0 ++ (w.1 ++ (w.2 ++ w.3))) }
 {
     let none = u32x4::splat(0);
-    let sums = w.0 + small0(w.0.shuffle(w.1, [1, 2, 3, 4])) + w.2.shuffle(w.3, [1, 2, 3, 4]);
-    let low = sums + small1(w.3.shuffle(none, [2, 3, 4, 5]));
-    low + small1(none.shuffle(low, [0, 1, 4, 5]))
+    let sums = w.0
+        + small::<7, 18, 3>(w.0.shuffle(w.1, [1, 2, 3, 4]))
+        + w.2.shuffle(w.3, [1, 2, 3, 4]);
+    let low = sums + small::<17, 19, 10>(w.3.shuffle(none, [2, 3, 4, 5]));
+    low + small::<17, 19, 10>(none.shuffle(low, [0, 1, 4, 5]))
 }
 
-fn small0(x: u32x4) -> u32x4
-    ensures { result ≡ map σ0 x }
+// Two rotations and a shift to the right, in each word: σ0 and σ1 of the standard.
+fn small<const I: u32, const J: u32, const K: u32>(x: u32x4) -> u32x4
+    requires i_range { (0 < I) × (I < 32) }
+    requires j_range { (0 < J) × (J < 32) }
+    requires k_bound { K < 32 }
+    ensures { result ≡ map (λ w. bit_xor (bit_xor (rotr I w) (rotr J w)) (shr K w)) x }
 {
-    rotated::<7, 25>(x) ^ rotated::<18, 14>(x) ^ (x >> u32x4::splat(3))
+    rotated::<I>(x) ^ rotated::<J>(x) ^ (x >> u32x4::splat(K))
 }
 
-fn small1(x: u32x4) -> u32x4
-    ensures { result ≡ map σ1 x }
+// Each word rotated to the right. BLAKE2s has its own: one of `digests` would be public, and ask its callers for the range.
+fn rotated<const N: u32>(x: u32x4) -> u32x4
+    requires { (0 < N) × (N < 32) }
+    ensures { result ≡ map (rotr N) x }
 {
-    rotated::<17, 15>(x) ^ rotated::<19, 13>(x) ^ (x >> u32x4::splat(10))
-}
-
-// Each word rotated to the right by N bits; M is the rest of 32.
-fn rotated<const N: u32, const M: u32>(x: u32x4) -> u32x4
-    requires { (N < 32) × (M < 32) }
-    ensures { result ≡ map (λ w. bit_or (w / 2 ^ N) ((w * 2 ^ M) % 2 ^ 32)) x }
-{
-    (x >> u32x4::splat(N)) | (x << u32x4::splat(M))
+    (x >> u32x4::splat(N)) | (x << u32x4::splat(32 - N))
 }

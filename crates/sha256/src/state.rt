@@ -1,4 +1,4 @@
-// A hash value, and the eight working variables of the rounds.
+// A hash value, and the eight working variables of the rounds, by the names that the standard gives these.
 #[derive(Clone, Copy)]
 pub struct State {
     pub a: u32,

@@ -1,3 +1,1 @@
 mod Taken
-mod Split
-mod Printed

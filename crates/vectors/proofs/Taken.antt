@@ -1,12 +1,9 @@
 -- One piece more of those that a digest takes.
-use Rattle.std.proofs.Common.{◌≡◌, ℕ, zero, suc, ◌+◌, ◌<◌, List, [], ◌∷◌, ◌++◌, map, length, get_or, take, replicate, sym, refl, ap, ◌∙◌, append_assoc, add-one}
+use Rattle.std.proofs.Common.{◌≡◌, ℕ, zero, suc, ◌+◌, List, [], ◌∷◌, ◌++◌, map, replicate, sym, refl, ap, ◌∙◌, append_assoc, add-one}
 use Rattle.std.specs.List.{flat_map}
-use Rattle.std.proofs.lemmas.List.{flat_map_more, take_more, append-nil}
+use Rattle.std.proofs.lemmas.List.{append-nil}
 use Rattle.scripts.specs.Words.{Bytes}
 use Rattle.vectors.specs.Pieced.{repeated}
-
-pub taken : {X A : Type 0} (f : X → List A) (xs : List X) (i : ℕ) (d : X) → i < length xs → flat_map f (take i xs) ++ f (get_or xs i d) ≡ flat_map f (take (i + 1) xs)
-taken f xs i d h = flat_map_more f [] (take i xs) (get_or xs i d) ∙ ap (flat_map f) (sym (take_more xs i d h))
 
 once_more : (n : ℕ) (piece : Bytes) → flat_map (λ p. p) (replicate n piece) ++ piece ≡ flat_map (λ p. p) (replicate (suc n) piece)
 once_more zero piece = sym (append-nil piece)

@@ -4,8 +4,10 @@ use Rattle.std.specs.List.{flat_map}
 use Rattle.std.specs.Option.{option_map}
 use Rattle.digests.specs.Hmac.{hmac_of}
 use Rattle.scripts.specs.Words.{Bytes, first_word, behind_word, number_of}
-use Rattle.scripts.specs.Hex.{both}
-use Rattle.vectors.specs.Pieced.{words_pieces, repeated, key_of, bytes_in}
+use Rattle.scripts.specs.Hex.{both, bytes_in}
+use Rattle.vectors.specs.Pieced.{words_pieces, repeated, key_of}
+use Rattle.vectors.specs.declared.question.Question.{Question}
+use Rattle.vectors.specs.declared.question.Question.TheVariants.{Digest, Hmac, Repeat}
 
 -- the digest of all pieces together
 abbrev pub words_answer : (Bytes → Bytes) → Option Bytes → Option Bytes
@@ -21,3 +23,9 @@ hmac_answer digest block (Some words) = both (hmac_of digest block) (key_of (fir
 abbrev pub repeat_answer : (Bytes → Bytes) → Option Bytes → Option Bytes
 repeat_answer digest None = None
 repeat_answer digest (Some words) = both (λ n piece. digest (repeated n piece)) (number_of (first_word words) 1000000) (bytes_in (behind_word words))
+
+-- the answer to a question
+abbrev pub question_answer : Question → (Bytes → Bytes) → ℕ → Option Bytes → Option Bytes
+question_answer Digest digest block words = words_answer digest words
+question_answer Hmac digest block words = hmac_answer digest block words
+question_answer Repeat digest block words = repeat_answer digest words

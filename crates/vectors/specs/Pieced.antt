@@ -1,17 +1,13 @@
 -- Bytes in pieces, as words of a line say them. Assumes nothing.
-use Rattle.std.specs.Prelude.{ℕ, cond, List, [], ◌∷◌, ◌++◌, map, length, replicate, Some, None, vec_items, Option, Vec, ◌==◌}
+use Rattle.std.specs.Prelude.{ℕ, cond, List, [], ◌∷◌, map, length, replicate, Some, None, vec_items, Option, Vec, ◌==◌}
 use Rattle.std.specs.List.{flat_map}
 use Rattle.std.specs.declared.alloc.Global.{Global}
 use Rattle.scripts.specs.Words.{Bytes}
 use Rattle.scripts.specs.Hex.{both, hex_bytes}
+use Rattle.scripts.specs.Lines.{parts_behind}
 
 abbrev pub pieces_in : Vec (Vec ℕ Global) Global → List Bytes
 pieces_in v = map vec_items (vec_items v)
-
--- the parts of a text, of which the first has begun already; each but the last ends before a separator
-unfoldable pub parts_behind : ℕ → Bytes → Bytes → List Bytes
-parts_behind separator begun [] = begun ∷ []
-parts_behind separator begun (x ∷ xs) = cond (x == separator) (begun ∷ parts_behind separator [] xs) (parts_behind separator (begun ++ x ∷ []) xs)
 
 -- the bytes of each word, if all are hex
 unfoldable pub all_hex : List Bytes → Option (List Bytes)
@@ -33,8 +29,3 @@ of_length n (Some bs) = cond (length bs == n) (Some bs) None
 -- a key of 32 bytes
 abbrev pub key_of : Bytes → Option Bytes
 key_of word = of_length 32 (hex_bytes word)
-
--- one word more, which is bytes
-abbrev pub bytes_in : Option Bytes → Option Bytes
-bytes_in None = None
-bytes_in (Some word) = hex_bytes word

@@ -1,19 +1,14 @@
 -- What lines print. Assumes nothing.
-use Rattle.std.specs.Prelude.{Bool, true, cond, [], ◌∷◌, ◌++◌, Some, None, codes, Option, ◌==◌}
+use Rattle.std.specs.Prelude.{cond, [], ◌∷◌, ◌++◌, Some, None, codes, Option}
 use Rattle.std.specs.List.{flat_map}
 use Rattle.scripts.specs.Words.{Bytes}
 use Rattle.scripts.specs.Hex.{hex_text}
-use Rattle.vectors.specs.Pieced.{parts_behind}
+use Rattle.scripts.specs.Lines.{silent, parts_behind}
 use Rattle.vectors.specs.Verbs.{line_answer}
 
 abbrev pub shown : Option Bytes → Bytes
 shown None = codes "not understood"
 shown (Some digest) = hex_text digest
-
--- an empty line, or a comment
-abbrev pub silent : Bytes → Bool
-silent [] = true
-silent (x ∷ xs) = x == 35
 
 unfoldable pub line_text : Bytes → Bytes
 line_text line = cond (silent line) [] (shown (line_answer line) ++ 10 ∷ [])

@@ -1,36 +1,36 @@
 -- The first words of lines, and what each asks. Assumes nothing.
-use Rattle.std.specs.Prelude.{cond, List, [], ◌∷◌, Some, None, codes, Option}
-use Rattle.std.specs.Str.{bytes_eq}
-use Rattle.scripts.specs.Words.{Bytes, first_word, behind_word}
+use Rattle.std.specs.Prelude.{[], ◌∷◌, Some, None, codes, Option}
+use Rattle.scripts.specs.Words.{Bytes, first_word, behind_word, entry_at}
 use Rattle.blake2s.specs.Blake2s.{blake2s}
 use Rattle.sha256.specs.Sha256.{sha256_of}
-use Rattle.vectors.specs.Asked.{words_answer, hmac_answer, repeat_answer}
+use Rattle.vectors.specs.Asked.{question_answer}
+use Rattle.vectors.specs.declared.question.Question.{Question}
+use Rattle.vectors.specs.declared.question.Question.TheVariants.{Digest, Hmac, Repeat}
+use Rattle.vectors.specs.declared.verb.Algorithm.{Algorithm}
+use Rattle.vectors.specs.declared.verb.Algorithm.TheVariants.{Sha256, Blake2s}
 use Rattle.vectors.specs.declared.verb.Verb.{Verb}
-use Rattle.vectors.specs.declared.verb.Verb.TheVariants as verbs
 
--- what the table has at a word
-abbrev pub verb_in : List (Bytes × Verb) → Bytes → Option Verb
-verb_in [] word = None
-verb_in (entry ∷ table) word = cond (bytes_eq word entry.0) (Some entry.1) (verb_in table word)
+abbrev verb : Algorithm → Question → Verb
+verb algorithm question = record { 0 = algorithm; 1 = question }
 
 abbrev pub verb_of : Bytes → Option Verb
 verb_of =
-    verb_in
-    ((codes "sha256", verbs.Sha256)
-    ∷ ((codes "hmac-sha256", verbs.HmacSha256)
-    ∷ ((codes "repeat-sha256", verbs.RepeatSha256)
-    ∷ ((codes "blake2s", verbs.Blake2s)
-    ∷ ((codes "hmac-blake2s", verbs.HmacBlake2s)
-    ∷ ((codes "repeat-blake2s", verbs.RepeatBlake2s) ∷ []))))))
+    entry_at
+    ((codes "sha256", verb Sha256 Digest)
+    ∷ ((codes "hmac-sha256", verb Sha256 Hmac)
+    ∷ ((codes "repeat-sha256", verb Sha256 Repeat)
+    ∷ ((codes "blake2s", verb Blake2s Digest)
+    ∷ ((codes "hmac-blake2s", verb Blake2s Hmac)
+    ∷ ((codes "repeat-blake2s", verb Blake2s Repeat) ∷ []))))))
+
+-- the answer of a digest, which works on 64 bytes at a time
+abbrev pub answer_of : Algorithm → Question → Option Bytes → Option Bytes
+answer_of Sha256 question rest = question_answer question sha256_of 64 rest
+answer_of Blake2s question rest = question_answer question blake2s 64 rest
 
 -- the answer of a first word, with what stands behind the space after it
 abbrev pub verb_answer : Verb → Option Bytes → Option Bytes
-verb_answer verbs.Sha256 rest = words_answer sha256_of rest
-verb_answer verbs.HmacSha256 rest = hmac_answer sha256_of 64 rest
-verb_answer verbs.RepeatSha256 rest = repeat_answer sha256_of rest
-verb_answer verbs.Blake2s rest = words_answer blake2s rest
-verb_answer verbs.HmacBlake2s rest = hmac_answer blake2s 64 rest
-verb_answer verbs.RepeatBlake2s rest = repeat_answer blake2s rest
+verb_answer verb rest = answer_of verb.0 verb.1 rest
 
 -- a first word that is in no table has no answer
 abbrev pub answer_if : Option Verb → Option Bytes → Option Bytes

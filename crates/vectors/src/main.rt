@@ -1,9 +1,9 @@
 // Prints what digests and HMACs answer to the lines of standard input, for test vectors.
 #![tactic(auto)]
 
-mod digesting;
 mod lines;
 mod pieces;
+mod question;
 mod verb;
 
 use lines::answer_lines;
@@ -11,9 +11,9 @@ use std::io;
 use std::io::Read;
 
 fn main(rt: HostRuntime) -> io::Result<()> {
-    let heap = rt.alloc();
-    let mut input = Vec::new(heap);
+    let alloc = rt.alloc();
+    let mut input = Vec::new(alloc);
     let _ = rt.stdin().read_to_end(&mut input)?;
-    let answers = answer_lines(heap, &input)?;
+    let answers = answer_lines(alloc, &input)?;
     print!(rt; "{answers}")
 }

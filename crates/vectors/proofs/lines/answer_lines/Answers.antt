@@ -1,34 +1,30 @@
-use Rattle.std.proofs.Common.{◌≡◌, ◌-◌, ◌++◌, length, take, drop, string_bytes, ap, ◌∙◌, arith}
-use Rattle.vectors.specs.Prints.{line_text}
-use Rattle.vectors.proofs.Printed.{left_text, left_first, left_more, left_next, left_last}
+use Rattle.std.proofs.Common.{◌≡◌, rules, List, [], ◌∷◌, ◌++◌, string_bytes, sym, ap, ◌∙◌, append_assoc}
+use Rattle.std.specs.List.{flat_map}
+use Rattle.std.proofs.lemmas.List.{append-nil}
+use Rattle.scripts.specs.Words.{Bytes}
+use Rattle.scripts.specs.Lines.{parts_behind}
+use Rattle.scripts.proofs.LineLemmas.{yields_parts, yields_more, yields_end}
+use Rattle.vectors.specs.Prints.{line_text, input_text}
 use Rattle.vectors.proofs.lines.answer_lines.Goals as goal
-use Rattle.vectors.proofs.lines.answer_lines.Goals.{then-input-end-eq10+in_ok-answer_line, else-input-end-eq10}
 
-pub loop-end-init : goal.loop-end-init
-loop-end-init c = (omega arith, ap (λ t. t ++ left_text c.args.input.now 0 0) c.new-out.ensures.bytes ∙ left_first c.args.input.now)
+pub loop-line-init : goal.loop-line-init
+unfolding input_text
+loop-line-init c =
+    let input = c.args.input.now in (
+      parts_behind 10 [] input,
+      yields_parts 10 input _ (search rules) (search rules) (search rules) (λ x b q k. search rules),
+      ap (λ t. t ++ input_text input) c.new-out.ensures.bytes,
+    )
 
-pub loop-end-preserved : goal.loop-end-preserved
-loop-end-preserved c =
-    let input = c.args.input.now in
-    let start = c.loop-end.start in
-    let end = c.loop-end.end in
-    let old = string_bytes c.loop-end.out in
-    let line = take (end - start) (drop start input) in
-    elim c.if-input-end-eq10.branch [
-      | then-input-end-eq10+in_ok-answer_line w ↦
-          let printed : string_bytes c.if-input-end-eq10.out ≡ old ++ line_text line = ap string_bytes w.out-is ∙ w.in_ok-answer_line.ensures in
-          (omega (arith, w.start-is), rw (printed, w.start-is) (left_next input start end c.loop-end-test.true old w.if-input-end-eq10.true ∙ c.loop-end.invariant.1))
-      | else-input-end-eq10 w ↦
-          let more = left_more input start end c.loop-end-test.true c.loop-end.invariant.0 w.if-input-end-eq10.false in
-          (omega (arith, w.start-is), rw (w.out-is, w.start-is) (ap (λ t. old ++ t) more ∙ c.loop-end.invariant.1))
-    ]
+line_more : (lines rest : List Bytes) (line old new all : Bytes) → lines ≡ line ∷ rest → new ≡ old ++ line_text line → old ++ flat_map line_text lines ≡ all → new ++ flat_map line_text rest ≡ all
+line_more lines rest line old new all l n e = rw (n, append_assoc) (ap (λ ls. old ++ flat_map line_text ls) (sym l) ∙ e)
+
+pub loop-line-preserved : goal.loop-line-preserved
+loop-line-preserved c =
+    let next = yields_more c.loop-line.invariant.0 c.in-Some.line c.loop-line.invariant.1 c.in-Some.ensures.steps in
+    (next.0, next.2, line_more _ _ _ _ _ _ next.1 c.in_ok-answer_line.ensures c.loop-line.invariant.2)
 
 pub returns : goal.returns
 returns c =
-    let input = c.args.input.now in
-    let start = c.loop-end.start in
-    let end = c.loop-end.end in
-    let old = string_bytes c.loop-end.out in
-    let all : length input ≡ end = omega arith in
-    let last = ap (λ n. line_text (take (n - start) (drop start input))) all ∙ left_last input start end c.loop-end-test.false in
-    c.in_ok-answer_line-2.ensures ∙ ap (λ t. old ++ t) last ∙ c.loop-end.invariant.1
+    let none = yields_end c.loop-line.invariant.0 c.loop-line.invariant.1 c.in-None.ensures.steps in
+    sym (append-nil (string_bytes c.loop-line.out)) ∙ ap (λ ls. string_bytes c.loop-line.out ++ flat_map line_text ls) (sym none) ∙ c.loop-line.invariant.2

@@ -1,12 +1,12 @@
-use Rattle.std.proofs.Common.{◌≡◌, ◌++◌}
+use Rattle.std.proofs.Common.{◌≡◌, ◌++◌, List}
 use Rattle.std.specs.Option.{option_map}
-use Rattle.vectors.specs.Pieced.{pieces_in, words_pieces}
-use Rattle.vectors.proofs.Split.{left_pieces, left_size}
+use Rattle.std.proofs.lemmas.Iterator.{YieldsList}
+use Rattle.scripts.specs.Words.{Bytes}
+use Rattle.vectors.specs.Pieced.{pieces_in, all_hex, words_pieces}
 use Rattle.vectors.proofs.pieces.decode_words.Given as goal
 
 -- with the words that are left it makes all pieces
-abbrev pub invariant-loop-left : goal.invariant-loop-left
-invariant-loop-left l = option_map (λ t. pieces_in l.pieces ++ t) (left_pieces (option_map (λ x. x.now) l.left)) ≡ words_pieces l.words
-
-abbrev pub decreases-loop-left : goal.decreases-loop-left
-decreases-loop-left l = left_size (option_map (λ x. x.now) l.left)
+abbrev pub invariant-loop-word : goal.invariant-loop-word
+invariant-loop-word l =
+    (rest : List Bytes) × YieldsList goal.iterator-loop-word.next_gives (λ x. x.now) l.word-iterator rest
+    × (option_map (λ t. pieces_in l.pieces ++ t) (all_hex rest) ≡ words_pieces l.fn.words)

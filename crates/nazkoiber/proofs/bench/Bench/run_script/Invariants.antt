@@ -1,10 +1,11 @@
-use Rattle.std.proofs.Common.{◌≡◌, ◌≤◌, ◌++◌, vec_items}
-use Rattle.nazkoiber.specs.Answering.{blocks, script_text}
-use Rattle.nazkoiber.proofs.Printed.{left_text}
+use Rattle.std.proofs.Common.{◌≡◌, ◌++◌, List, vec_items}
+use Rattle.std.proofs.lemmas.Iterator.{YieldsList}
+use Rattle.scripts.specs.Words.{Bytes}
+use Rattle.nazkoiber.specs.Answering.{blocks, lines_text, script_text}
 use Rattle.nazkoiber.proofs.bench.Bench.run_script.Given as goal
 
--- with what is left of the script it prints all
-abbrev pub invariant-loop-end : goal.invariant-loop-end
-invariant-loop-end l =
-    (l.start ≤ l.end)
-    × (vec_items l.out ++ left_text l.script l.start l.end (blocks l.self) ≡ vec_items l.initial.out ++ script_text l.script (blocks l.initial.self))
+-- with the lines that are left it prints all
+abbrev pub invariant-loop-line : goal.invariant-loop-line
+invariant-loop-line l =
+    (rest : List Bytes) × YieldsList goal.iterator-loop-line.next_gives (λ x. x.now) l.line-iterator rest
+    × (vec_items l.out ++ lines_text rest (blocks l.self) ≡ vec_items l.initial.out ++ script_text l.fn.script (blocks l.initial.self))

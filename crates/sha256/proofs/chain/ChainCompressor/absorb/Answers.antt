@@ -6,9 +6,10 @@ use Rattle.sha256.proofs.chain.ChainCompressor.absorb.Goals as goal
 pub returns : goal.returns
 returns c bs h =
     let block = c.args.block.now in
+    let size = c.told-block in
     let long = length-append bs block in
     record {
-      whole = omega (arith, long, h.whole, c.requires);
-      state_is = c.compress-self.ensures ∙ ap (λ s. compressed s block) h.state_is ∙ block_more bs block h.whole c.requires;
-      count_is = omega (arith, long, h.count_is, c.requires);
+      whole = omega (arith, long, h.whole, size);
+      state_is = c.step.ensures.value ∙ ap (λ s. compressed s block) h.state_is ∙ block_more bs block h.whole size;
+      count_is = omega (arith, long, h.count_is, size, c.step.ensures.counted);
     }

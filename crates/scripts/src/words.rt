@@ -1,0 +1,116 @@
+// The words of a line are set apart by single spaces.
+ghost use Rattle.std.specs.Prelude.{◌≡◌, ◌+◌, ◌<◌, ◌≤◌, length, take, drop, Some, None, IfSome, MatchOption};
+ghost use Rattle.std.specs.Option.{option_map, option_and_then};
+ghost use Rattle.scripts.specs.Words.{first_word, behind_word, alone, decimal_value, number_of};
+ghost use Rattle.scripts.specs.Lines.{silent};
+ghost use Rattle.scripts.specs.Reading.{Reads};
+
+use crate::error::ParseError;
+use std::marker::Model;
+
+// An empty line, or a comment.
+pub fn is_silent(line: &[u8]) -> bool
+    ensures { result ≡ silent line.now }
+{
+    matches!(line, [] | [b'#', ..])
+}
+
+// What is left of a line, if anything is: words.
+#[derive(Drop)]
+pub struct Words<'a> {
+    left: Option<&'a [u8]>,
+}
+
+impl<'a> Model for Words<'a> {
+    ghost use Rattle.std.specs.Prelude.{List, ℕ, Option};
+    ghost use Rattle.std.specs.Option.{option_map};
+
+    ghost Value = { Option (List ℕ) };
+
+    ghost view = { λ w. option_map (λ x. x.now) w.left };
+}
+
+impl<'a> Words<'a> {
+    pub fn new(line: &'a [u8]) -> Words<'a>
+        ensures { result ≡ Some line.entry.now }
+    {
+        Words { left: Some(line) }
+    }
+
+    // Takes the next word.
+    pub fn next(&mut self) -> Result<&'a [u8], ParseError>
+        ensures word { Reads (λ w. w.now) (option_map first_word self.old) result }
+        ensures rest { self.new ≡ option_and_then behind_word self.old }
+    {
+        let left = self.left.ok_or(ParseError::NotUnderstood)?;
+        let (word, rest) = split_word(left);
+        self.left = rest;
+        Ok(word)
+    }
+
+    // All that is left, as one last word.
+    pub fn last(self) -> Result<&'a [u8], ParseError>
+        ensures { Reads (λ w. w.now) self.entry result }
+    {
+        self.left.ok_or(ParseError::NotUnderstood)
+    }
+
+    // The value, if no word is left.
+    pub fn end<T: Drop>(self, value: T) -> Result<T, ParseError>
+        ensures { Reads (λ v. v) (alone value self.entry) result }
+    {
+        match self.left {
+            Some(_) => Err(ParseError::NotUnderstood),
+            None => Ok(value),
+        }
+    }
+}
+
+// The first word of a line, and what stands behind the space after it, if there is one.
+pub fn split_word(line: &[u8]) -> (&[u8], Option<&[u8]>)
+    ensures word { result.0.now ≡ first_word line.now }
+    ensures rest { option_map (λ x. x.now) result.1 ≡ behind_word line.now }
+{
+    match first_space(line) {
+        Some(i) => (&line[..i], Some(&line[i + 1..])),
+        None => (line, None),
+    }
+}
+
+fn first_space(line: &[u8]) -> Option<usize>
+    ensures { MatchOption result
+        ((line.now ≡ first_word line.now) × (None ≡ behind_word line.now))
+        (λ i. (i < length line.now) × (take i line.now ≡ first_word line.now) × (Some (drop (i + 1) line.now) ≡ behind_word line.now)) }
+{
+    line.iter().position(|byte| *byte == b' ')
+}
+
+// The number of a word of digits, of which there is at least one, if it is at most so much.
+#[tactic(auto, using(crate::proofs::WordLemmas::number_steps))]
+pub fn parse_number(word: &[u8], most: u32) -> Option<u32>
+    ensures value { result ≡ number_of word.now most }
+    ensures bound { IfSome result (λ n. n ≤ most) }
+{
+    if word.is_empty() {
+        return None;
+    }
+    let mut number: u64 = 0;
+    for &byte in word {
+        number = number * 10 + u64::from(decimal_digit(byte)?);
+        // More digits never bring it down again, so that it stays small however long the word is.
+        if number > u64::from(most) {
+            return None;
+        }
+    }
+    Some(number as u32)
+}
+
+fn decimal_digit(byte: u8) -> Option<u8>
+    ensures value { result ≡ decimal_value byte }
+    ensures bound { IfSome result (λ d. d < 10) }
+{
+    match byte {
+        b'0'..=b'9' => Some(byte - b'0'),
+        _ => None,
+    }
+}

@@ -1,0 +1,49 @@
+// What a line asks of a digest, whichever it is.
+ghost use Rattle.std.specs.Prelude.{◌≡◌};
+ghost use Rattle.scripts.specs.Reading.{Reads};
+ghost use Rattle.vectors.specs.Asked.{question_answer};
+
+use crate::pieces::{decode_key, decode_words, digest_repeated};
+use digests::{Digest, digest_of, hmac};
+use scripts::{ParseError, Words, decode_hex, parse_number};
+use std::alloc::Global;
+
+// How often a piece can be repeated.
+const MAX_COUNT: u32 = 1_000_000;
+
+#[derive(Clone, Copy)]
+pub enum Question {
+    // HEX ..
+    Digest,
+    // KEY HEX
+    Hmac,
+    // COUNT HEX
+    Repeat,
+}
+
+impl Question {
+    // The answer to words.
+    #[tactic(auto, using(crate::proofs::Taken::joined_map))]
+    pub fn answer<D: Digest>(self, alloc: Global, mut words: Words) -> Result<[u8; 32], ParseError>
+        ensures { Reads (λ d. d) (question_answer self D.digest D.BLOCK words.entry) result }
+    {
+        match self {
+            Question::Digest => {
+                let pieces = decode_words(alloc, words.last()?)?;
+                Ok(digest_of::<D, _>(&pieces))
+            }
+            Question::Hmac => {
+                let key = decode_key(alloc, words.next()?)?;
+                let text = decode_hex(alloc, words.last()?)?;
+                Ok(hmac::<D>(&key, &text))
+            }
+            Question::Repeat => {
+                let count = parse_number(words.next()?, MAX_COUNT).ok_or(
+                    ParseError::NotUnderstood,
+                )?;
+                let piece = decode_hex(alloc, words.last()?)?;
+                Ok(digest_repeated::<D>(count, &piece))
+            }
+        }
+    }
+}
