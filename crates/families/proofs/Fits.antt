@@ -1,5 +1,5 @@
 -- The first pair that fits.
-use Rattle.std.proofs.Common.{◌≡◌, ℕ, zero, suc, ◌+◌, ◌^◌, ◌<◌, ◌≤◌, true, false, not, eqb, leb, List, [], ◌∷◌, ◌++◌, length, get_or, drop, is_some, Some, None, Ok, Err, Option, Result, unwrap_or, sym, refl, ap, ◌∙◌, subst, inl, inr, append_assoc, arith}
+use Rattle.std.proofs.Common.{◌≡◌, ℕ, zero, suc, ◌+◌, ◌^◌, ◌<◌, ◌≤◌, Bool, true, false, not, eqb, leb, List, [], ◌∷◌, ◌++◌, length, get_or, drop, is_some, Some, None, Ok, Err, Option, Result, unwrap_or, sym, refl, ap, ◌∙◌, subst, inl, inr, append_assoc, arith}
 use Rattle.std.specs.List.{AllByRecursion}
 use Rattle.std.proofs.ByRecursion.{All-append}
 use Rattle.std.proofs.lemmas.Bool.{cases_Bool, cond-true, cond-false, and_parts, leb-true, eq-eqb, ne_eqb}
@@ -14,9 +14,17 @@ use Rattle.answers.specs.declared.Refusal.TheVariants.{BadBlockCount, NoSuchPara
 use Rattle.answers.specs.Refusals.{unless}
 use Rattle.families.specs.Shape.{Shape}
 use Rattle.families.specs.Halves.{halves_shape}
-use Rattle.families.specs.Making.{bad_count}
-use Rattle.families.specs.Choice.{numbered_shape, numbered_answer, pairs, fits, first_fit, chosen, choose_answer, FirstFit, NothingFits}
+use Rattle.families.specs.Making.{no_count, count_answer, bad_count}
+use Rattle.families.specs.Choice.{numbered_shape, numbered_answer, pairs, offered, all_offered, fits, first_fit, chosen, choose_answer, FirstFit, NothingFits}
 use Rattle.families.specs.Lawful.{offered_range, degree_range}
+
+-- a count that was made is the number that it was made of
+pub counted : (most n x : ℕ) → ◌≡◌ {A = Result ℕ Refusal} (Ok x) (count_answer most n) → x ≡ n
+counted most n x made = go (no_count most n) made
+  where
+    go : (b : Bool) → ◌≡◌ {A = Result ℕ Refusal} (Ok x) (unless ((b, BadBlockCount) ∷ []) n) → x ≡ n
+    go false e = cc
+    go true e = let z : ◌≡◌ {A = ℕ} 0 1 = cc in absurd (omega arith)
 
 abbrev pub Pair : Type 0
 Pair = ℕ × ℕ
@@ -47,47 +55,17 @@ fit_none n d (suc i) (p ∷ ps) h = fit_none n d i ps (omega arith)
 abbrev pub Small : Pair → Type 0
 Small p = (1 ≤ p.0) × (p.0 ≤ 16) × (2 ≤ p.1) × (p.1 ≤ 4) × (among p.0 orders ≡ true) × (among p.1 coefficient_counts ≡ true)
 
+pub small_all : (ps : List Pair) → all_offered ps ≡ true → AllByRecursion Small ps
+small_all [] e = tt
+small_all (p ∷ ps) e =
+    let parts = and_parts (offered p) (all_offered ps) e in
+    let here = and_parts (among p.0 orders) (among p.1 coefficient_counts) parts.0 in
+    let q = offered_range p.0 here.0 in
+    let k = degree_range p.1 here.1 in
+    ((omega (arith, q.0), q.1, k.0, k.1, here.0, here.1), small_all ps parts.1)
+
 pub all_small : AllByRecursion Small pairs
-all_small = (
-  at 5 2 refl refl,
-  (
-    at 5 3 refl refl,
-    (
-      at 5 4 refl refl,
-      (
-        at 7 2 refl refl,
-        (
-          at 7 3 refl refl,
-          (
-            at 7 4 refl refl,
-            (
-              at 8 2 refl refl,
-              (
-                at 8 3 refl refl,
-                (
-                  at 8 4 refl refl,
-                  (
-                    at 11 2 refl refl,
-                    (
-                      at 11 3 refl refl,
-                      (
-                        at 11 4 refl refl,
-                        (at 13 2 refl refl, (at 13 3 refl refl, (at 13 4 refl refl, (at 16 2 refl refl, (at 16 3 refl refl, (at 16 4 refl refl, tt)))))),
-                      ),
-                    ),
-                  ),
-                ),
-              ),
-            ),
-          ),
-        ),
-      ),
-    ),
-  ),
-)
-  where
-    at : (q k : ℕ) → among q orders ≡ true → among k coefficient_counts ≡ true → Small (q, k)
-    at q k e f = let r = offered_range q e in let s = degree_range k f in (omega (arith, r.0), r.1, s.0, s.1, e, f)
+all_small = small_all pairs refl
 
 -- the first that fits stands behind pairs that fail
 found_at : (n d : ℕ) (ps before : List Pair) (p : Pair) → pairs ≡ before ++ ps → AllByRecursion (λ o. fits n d o ≡ false) before → AllByRecursion Small ps → first_fit n d ps ≡ Some p

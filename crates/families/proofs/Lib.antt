@@ -3,3 +3,4 @@ pub mod PolynomialRows
 pub mod Ranks
 pub mod Fits
 pub mod Cases
+pub mod Products

@@ -10,9 +10,9 @@ use Rattle.families.specs.declared.any.AnyFamily.{AnyFamily}
 use Rattle.families.specs.declared.any.AnyFamily.TheVariants.{Single, Halves, PrimePolynomial, BinaryPolynomial, Plane}
 
 abbrev pub any_shape : AnyFamily → Shape
-any_shape (Single f) = single_shape f.n
-any_shape (Halves f) = halves_shape f.n
-any_shape (PrimePolynomial f) = poly_shape f.field.q (mod_sum f.field.q) (mod_product f.field.q) f.k f.n
+any_shape (Single f) = single_shape f.blocks.n
+any_shape (Halves f) = halves_shape f.blocks.n
+any_shape (PrimePolynomial f) = poly_shape f.field.q (mod_sum f.field.q) (mod_product f.field.q) f.k f.blocks.n
 any_shape (BinaryPolynomial f) =
-    poly_shape (2 ^ f.field.degree) (binary_sum f.field.degree) (binary_product f.field.degree (modulus f.field.degree)) f.k f.n
-any_shape (Plane f) = plane_shape f.n
+    poly_shape (2 ^ f.field.degree) (binary_sum f.field.degree) (binary_product f.field.degree (modulus f.field.degree)) f.k f.blocks.n
+any_shape (Plane f) = plane_shape f.blocks.n

@@ -1,7 +1,7 @@
 -- A family with its bounds: still cover-free.
 use Rattle.std.specs.Prelude.{◌≡◌, ℕ, ◌<◌, ◌≤◌, Bool, true, false, ◌&&◌, ◌⊎◌, List, [], ◌∷◌, nat_le}
-use Rattle.std.proofs.Common.{ap, le_trans, arith}
-use Rattle.std.proofs.lemmas.Bool.{and_from, and_right, and_parts, le-leb, leb-true}
+use Rattle.std.proofs.Common.{ap, le_trans, inl, inr, arith}
+use Rattle.std.proofs.lemmas.Bool.{cases_lt, and_from, and_right, and_parts, le-leb, leb-true}
 use Rattle.std.proofs.lemmas.Bool.Decides.{nat_tests}
 use Rattle.families.specs.Numbers.{within}
 use Rattle.families.specs.Family.{bounded, BoundedInside, Beside, NoneIn, CoverFree}
@@ -9,13 +9,26 @@ use Rattle.families.specs.Family.{bounded, BoundedInside, Beside, NoneIn, CoverF
 within_true : (n i : ℕ) → 1 ≤ i → i ≤ n → within n i ≡ true
 within_true n i low high = and_from (nat_le 1 i) (nat_le i n) (le-leb 1 i low) (le-leb i n high)
 
+-- what it says that a number is from 1 to a count, or is not
+pub within_from : (n i : ℕ) → within n i ≡ true → (1 ≤ i) × (i ≤ n)
+within_from n i e =
+    let both = and_parts (nat_le 1 i) (nat_le i n) e in
+    (leb-true 1 i both.0, leb-true i n both.1)
+
+pub within_not : (n i : ℕ) → within n i ≡ false → (i ≡ 0) ⊎ (n < i)
+within_not n i e =
+    elim (cases_lt n i) [
+      | inl high ↦ inr high
+      | inr low ↦ inl (grind (arith, nat_tests))
+    ]
+
 pub bounded_inside : BoundedInside
 bounded_inside n t held i j e =
     let parts = and_parts (within t i && within n j) (held i j) e in
     let ranges = and_parts (within t i) (within n j) parts.0 in
-    let row = and_parts (nat_le 1 i) (nat_le i t) ranges.0 in
-    let block = and_parts (nat_le 1 j) (nat_le j n) ranges.1 in
-    (leb-true 1 i row.0, leb-true i t row.1, leb-true 1 j block.0, leb-true j n block.1)
+    let row = within_from t i ranges.0 in
+    let block = within_from n j ranges.1 in
+    (row.0, row.1, block.0, block.1)
 
 pub bounded_within : (n t : ℕ) (held : ℕ → ℕ → Bool) (i j : ℕ) → 1 ≤ i → i ≤ t → 1 ≤ j → j ≤ n → bounded n t held i j ≡ held i j
 bounded_within n t held i j i1 it j1 jn = ap (λ b. b && held i j) (and_from (within t i) (within n j) (within_true t i i1 it) (within_true n j j1 jn))

@@ -41,6 +41,14 @@ pairs =
     (5, 2) ∷ (5, 3) ∷ (5, 4) ∷ (7, 2) ∷ (7, 3) ∷ (7, 4) ∷ (8, 2) ∷ (8, 3) ∷ (8, 4)
     ∷ (11, 2) ∷ (11, 3) ∷ (11, 4) ∷ (13, 2) ∷ (13, 3) ∷ (13, 4) ∷ (16, 2) ∷ (16, 3) ∷ (16, 4) ∷ []
 
+-- q and k are on offer; all of a list are
+abbrev pub offered : ℕ × ℕ → Bool
+offered p = among p.0 orders && among p.1 coefficient_counts
+
+abbrev pub all_offered : List (ℕ × ℕ) → Bool
+all_offered [] = true
+all_offered (p ∷ ps) = offered p && all_offered ps
+
 -- a pair of strength exactly d, with a polynomial for each of n blocks
 abbrev pub fits : ℕ → ℕ → ℕ × ℕ → Bool
 fits n d p = poly_strength p.0 p.1 == d && nat_le n (p.0 ^ p.1)

@@ -28,6 +28,7 @@ pub enum AnyFamily {
     Plane(Plane),
 }
 
+// A call for each kind: one over all kinds would be told the kind by a type, and who calls these learns it as the program runs.
 impl AnyFamily {
     pub fn single(n: u16) -> Result<AnyFamily, Refusal>
         ensures { result_map_both any_shape (λ e. e) result ≡ single_answer n }
@@ -63,7 +64,7 @@ impl AnyFamily {
     }
 }
 
-// The same question to the family of whatever kind.
+// The same question to the family of whatever kind. No `dyn Family`: a call that chooses a family would have to hand it out in a box, and takes no memory.
 macro_rules! ask {
     ($any:expr, $family:ident => $answer:expr) => {
         match $any {
@@ -80,15 +81,15 @@ impl Family for AnyFamily {
     ghost shape = { any_shape };
 
     ghost lawful = { elim [
-      | Single f ↦ single_lawful f.n f.some f.most
-      | Halves f ↦ halves_lawful f.n f.some f.most
+      | Single f ↦ single_lawful f.blocks.n f.blocks.some f.blocks.most
+      | Halves f ↦ halves_lawful f.blocks.n f.blocks.some f.blocks.most
       | PrimePolynomial f ↦
           let q = f.field.q in
-          poly_lawful q (mod_sum q) (mod_product q) (prime_field q f.field.prime) (prime_offered q f.field.prime) f.k f.n f.degree f.some f.most
+          poly_lawful q (mod_sum q) (mod_product q) (prime_field q f.field.prime) (prime_offered q f.field.prime) f.k f.blocks.n f.degree f.blocks.some f.blocks.most
       | BinaryPolynomial f ↦
           let e = f.field.degree in
-          poly_lawful (2 ^ e) (binary_sum e) (binary_product e (modulus e)) (binary_field e f.field.known) (degree_offered e f.field.known) f.k f.n f.degree f.some f.most
-      | Plane f ↦ plane_lawful f.n f.some f.most
+          poly_lawful (2 ^ e) (binary_sum e) (binary_product e (modulus e)) (binary_field e f.field.known) (degree_offered e f.field.known) f.k f.blocks.n f.degree f.blocks.some f.blocks.most
+      | Plane f ↦ plane_lawful f.blocks.n f.blocks.some f.blocks.most
     ] };
 
     fn kind_byte(&self) -> u8 {

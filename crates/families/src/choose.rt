@@ -1,11 +1,12 @@
 // Which family a sheet gets, by its block count and how many changed blocks are to be named.
-ghost use Rattle.std.specs.Prelude.{◌≡◌, ◌≤◌, MatchResult};
+ghost use Rattle.std.specs.Prelude.{◌≡◌, ◌≤◌, true, MatchResult};
 ghost use Rattle.std.specs.Result.{result_map_both};
 ghost use Rattle.answers.specs.declared.Refusal.TheVariants.{NoSuchParameter};
 ghost use Rattle.families.specs.Any.{any_shape};
-ghost use Rattle.families.specs.Choice.{pairs, fits, first_fit, choose_answer, Chosen, NothingFits};
+ghost use Rattle.families.specs.Choice.{pairs, all_offered, fits, first_fit, choose_answer, Chosen, NothingFits};
 
 use crate::any::AnyFamily;
+use crate::blocks::BlockCount;
 use crate::polynomial::power;
 use answers::Refusal;
 
@@ -36,23 +37,27 @@ pub fn choose(n: u16, d: u16) -> Result<AnyFamily, Refusal>
     ensures answer { result_map_both any_shape (λ e. e) result ≡ choose_answer n d }
     ensures first { MatchResult result (λ f. Chosen n d (any_shape f)) (λ e. e ≡ NoSuchParameter → NothingFits n d) }
 {
-    if n == 0 || n > 512 {
-        return Err(Refusal::BadBlockCount);
-    }
+    let n = BlockCount::<512>::new(n)?.get();
     if d == 1 {
         return AnyFamily::halves(n);
     }
-    match first_pair(n, d) {
-        Some((q, k)) => AnyFamily::polynomial(q, k, n),
-        None => Err(Refusal::NoSuchParameter),
-    }
+    let Some((q, k)) = offered_pair(n, d) else {
+        return Err(Refusal::NoSuchParameter);
+    };
+    AnyFamily::polynomial(q, k, n)
 }
 
-fn first_pair(n: u16, d: u16) -> Option<(u8, u8)>
+fn offered_pair(n: u16, d: u16) -> Option<(u8, u8)>
     ensures { result ≡ first_fit n d pairs }
 {
-    for i in 0..PAIRS.len() {
-        let (q, k) = PAIRS[i];
+    first_pair(&PAIRS, n, d)
+}
+
+fn first_pair(pairs: &[(u8, u8)], n: u16, d: u16) -> Option<(u8, u8)>
+    requires { all_offered pairs.now ≡ true }
+    ensures { result ≡ first_fit n d pairs.now }
+{
+    for &(q, k) in pairs {
         if is_fit(q, k, n, d) {
             return Some((q, k));
         }
@@ -65,5 +70,5 @@ fn is_fit(q: u8, k: u8, n: u16, d: u16) -> bool
     requires { (1 ≤ q) × (q ≤ 16) × (2 ≤ k) × (k ≤ 4) }
     ensures { result ≡ fits n d (q, k) }
 {
-    (q as u16 - 1) / (k as u16 - 1) == d && n as u32 <= power(q, k)
+    (u16::from(q) - 1) / (u16::from(k) - 1) == d && u32::from(n) <= power(q, k)
 }

@@ -8,6 +8,7 @@ use answers::{BlockNumber, RowNumber};
 pub trait Family {
     ghost shape: { Self → Shape };
 
+    // The number by which a seal names the kind. No enum: a family of another crate brings a number of its own.
     fn kind_byte(&self) -> u8
         ensures { result ≡ (shape self.now).kind };
 
@@ -48,8 +49,8 @@ pub trait Family {
 
 // Whatever the family: no two different sets of at most d blocks touch the same rows.
 pub fn tells_apart<F: Family>(family: &F) -> u16
-    ensures strength { result ≡ (F.Family.shape family.now).strength }
-    ensures apart { TellsApart (F.Family.shape family.now).blocks (F.Family.shape family.now).rows (F.Family.shape family.now).strength (F.Family.shape family.now).holds }
+    ensures strength { result ≡ (F.shape family.now).strength }
+    ensures apart { TellsApart (F.shape family.now).blocks (F.shape family.now).rows (F.shape family.now).strength (F.shape family.now).holds }
 {
     family.strength()
 }

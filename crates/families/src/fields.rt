@@ -2,6 +2,7 @@
 ghost use Rattle.std.specs.Prelude.{◌≡◌, ℕ, ◌^◌, ◌<◌, true, false, [], ◌∷◌, MatchResult};
 ghost use Rattle.std.specs.Result.{result_map_both};
 ghost use Rattle.answers.specs.declared.Refusal.TheVariants.{NoSuchParameter};
+ghost use Rattle.families.specs.Choice.{product_of};
 ghost use Rattle.families.specs.Field.{primes, binaries, field_answer, FieldLaws, mod_sum, mod_product, binary_sum, binary_product, modulus, tabled};
 ghost use Rattle.families.specs.Numbers.{among};
 ghost use Rattle.families.specs.Primes.{prime_field};
@@ -71,11 +72,11 @@ impl Field for Prime {
     }
 
     fn sum(&self, a: u8, b: u8) -> u8 {
-        ((a as u16 + b as u16) % self.q as u16) as u8
+        ((u16::from(a) + u16::from(b)) % u16::from(self.q)) as u8
     }
 
     fn product(&self, a: u8, b: u8) -> u8 {
-        ((a as u16 * b as u16) % self.q as u16) as u8
+        ((u16::from(a) * u16::from(b)) % u16::from(self.q)) as u8
     }
 
     fn negative(&self, a: u8) -> u8 {
@@ -156,9 +157,9 @@ impl Field for Binary {
 
     fn product(&self, a: u8, b: u8) -> u8 {
         if self.degree == 3 {
-            product8(a, b)
+            product_in(&PRODUCTS8, a, b)
         } else {
-            product16(a, b)
+            product_in(&PRODUCTS16, a, b)
         }
     }
 
@@ -167,26 +168,10 @@ impl Field for Binary {
     }
 }
 
-fn product8(a: u8, b: u8) -> u8
-    ensures { result ≡ binary_product 3 0b1011 a b }
+// The product by a table of all products of a binary field's elements.
+fn product_in<const Q: usize>(products: &[[u8; Q]; Q], a: u8, b: u8) -> u8
+    requires { (among Q binaries ≡ true) × (products.now ≡ tabled (product_of Q) Q) }
+    ensures { result ≡ product_of Q a b }
 {
-    table8()[a as usize % 8][b as usize % 8]
-}
-
-fn table8() -> &'static [[u8; 8]; 8]
-    ensures { result.now ≡ tabled (binary_product 3 0b1011) 8 }
-{
-    &PRODUCTS8
-}
-
-fn product16(a: u8, b: u8) -> u8
-    ensures { result ≡ binary_product 4 0b10011 a b }
-{
-    table16()[a as usize % 16][b as usize % 16]
-}
-
-fn table16() -> &'static [[u8; 16]; 16]
-    ensures { result.now ≡ tabled (binary_product 4 0b10011) 16 }
-{
-    &PRODUCTS16
+    products[usize::from(a) % Q][usize::from(b) % Q]
 }

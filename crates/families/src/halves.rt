@@ -6,6 +6,7 @@ ghost use Rattle.families.specs.Numbers.{count};
 ghost use Rattle.families.specs.Making.{halves_answer};
 ghost use Rattle.families.specs.Lawful.{halves_lawful};
 
+use crate::blocks::{BlockCount, is_within};
 use crate::family::Family;
 use answers::{BlockNumber, Refusal, RowNumber};
 
@@ -14,33 +15,29 @@ static LIMITS: [u16; 11] = [2, 3, 6, 10, 20, 35, 70, 126, 252, 462, 924];
 
 #[derive(Clone, Copy)]
 pub struct Halves {
-    n: u16,
+    blocks: BlockCount<512>,
     t: u16,
-    // The number that each block takes, so that none is worked out twice.
+    // The number that each block takes, so that none is worked out twice. An array beside the count: `Halves` is copied, and no call takes memory.
     words: [u16; 512],
-    ghost some: { 1 ≤ n },
-    ghost most: { n ≤ 512 },
-    ghost rows: { t ≡ halves_rows n },
-    ghost ranked: { Ranked t n words },
+    ghost rows: { t ≡ halves_rows blocks.n },
+    ghost ranked: { Ranked t blocks.n words },
 }
 
 impl Halves {
     pub fn new(n: u16) -> Result<Halves, Refusal>
-        ensures { result_map_both (λ f. halves_shape f.n) (λ e. e) result ≡ halves_answer n }
+        ensures { result_map_both (λ f. halves_shape f.blocks.n) (λ e. e) result ≡ halves_answer n }
     {
-        if n == 0 || n > 512 {
-            return Err(Refusal::BadBlockCount);
-        }
-        let t = rows_for(n);
-        let words = rank_words(t, n);
-        Ok(Halves { n, t, words })
+        let blocks = BlockCount::new(n)?;
+        let t = rows_for(blocks.get());
+        let words = rank_words(t, blocks.get());
+        Ok(Halves { blocks, t, words })
     }
 }
 
 impl Family for Halves {
-    ghost shape = { λ f. halves_shape f.n };
+    ghost shape = { λ f. halves_shape f.blocks.n };
 
-    ghost lawful = { λ f. halves_lawful f.n f.some f.most };
+    ghost lawful = { λ f. halves_lawful f.blocks.n f.blocks.some f.blocks.most };
 
     fn kind_byte(&self) -> u8 {
         2
@@ -55,7 +52,7 @@ impl Family for Halves {
     }
 
     fn block_count(&self) -> u16 {
-        self.n
+        self.blocks.get()
     }
 
     fn row_count(&self) -> u16 {
@@ -67,20 +64,19 @@ impl Family for Halves {
     }
 
     fn holds(&self, row: RowNumber, block: BlockNumber) -> bool {
-        if row.0 == 0 || row.0 > self.t || block.0 == 0 || block.0 > self.n {
-            return false;
-        }
-        self.has_one(row.0, block.0)
+        is_within(self.t, row.0)
+            && is_within(self.blocks.get(), block.0)
+            && self.has_one(row.0, block.0)
     }
 }
 
 impl Halves {
     // Whether a block's number has a one at a row's bit.
     fn has_one(&self, row: u16, block: u16) -> bool
-        requires { (1 ≤ row) × (row ≤ self.now.t) × (1 ≤ block) × (block ≤ self.now.n) }
-        ensures { result ≡ halves_held (halves_rows self.now.n) row block }
+        requires { (1 ≤ row) × (row ≤ self.now.t) × (1 ≤ block) × (block ≤ self.now.blocks.n) }
+        ensures { result ≡ halves_held (halves_rows self.now.blocks.n) row block }
     {
-        (self.words[block as usize - 1] >> (row - 1)) % 2 == 1
+        (self.words[usize::from(block) - 1] >> (row - 1)) % 2 == 1
     }
 }
 
@@ -104,6 +100,7 @@ fn rank_words(t: u16, n: u16) -> [u16; 512]
     ensures { Ranked t n result }
 {
     let mut words = [0; 512];
+    // Counted by hand: the proof of a zip of the places with a filter over the numbers did not close.
     let mut found = 0;
     for word in 0..1 << t {
         if found < 512 && has_half(word, t) {
@@ -126,5 +123,5 @@ fn has_half(word: u16, t: u16) -> bool
 fn half(t: u16) -> u32
     ensures { result ≡ t / 2 }
 {
-    t as u32 / 2
+    u32::from(t) / 2
 }

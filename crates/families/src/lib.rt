@@ -10,6 +10,7 @@ ghost use Rattle.families.specs.Plane.{PlaneCoverFree};
 ghost use Rattle.families.specs.Cases.{WorkedCases, FurtherCases};
 
 pub mod any;
+mod blocks;
 pub mod choose;
 pub mod family;
 pub mod fields;
@@ -18,76 +19,52 @@ pub mod plane;
 pub mod polynomial;
 pub mod single;
 
-pub fn bounded_inside() -> u8
+pub fn bounded_inside()
     ensures { BoundedInside }
-{
-    0
-}
+{}
 
-pub fn root_counting() -> u8
+pub fn root_counting()
     ensures { RootCounting }
-{
-    0
-}
+{}
 
-pub fn coefficients_differ() -> u8
+pub fn coefficients_differ()
     ensures { CoefficientsDiffer }
-{
-    0
-}
+{}
 
-pub fn polynomial_cover_free() -> u8
+pub fn polynomial_cover_free()
     ensures { PolynomialCoverFree }
-{
-    0
-}
+{}
 
-pub fn single_cover_free() -> u8
+pub fn single_cover_free()
     ensures { SingleCoverFree }
-{
-    0
-}
+{}
 
-pub fn limits_counted() -> u8
+pub fn limits_counted()
     ensures { LimitsCounted }
-{
-    0
-}
+{}
 
-pub fn halves_cover_free() -> u8
+pub fn halves_cover_free()
     ensures { HalvesCoverFree }
-{
-    0
-}
+{}
 
-pub fn plane_cover_free() -> u8
+pub fn plane_cover_free()
     ensures { PlaneCoverFree }
-{
-    0
-}
+{}
 
 // The numbers modulo 5, 7, 11 and 13 keep the laws of a field.
-pub fn prime_fields() -> u8
+pub fn prime_fields()
     ensures { PrimeFields }
-{
-    0
-}
+{}
 
 // So do the bit polynomials modulo 1011 and 10011.
-pub fn binary_fields() -> u8
+pub fn binary_fields()
     ensures { BinaryFields }
-{
-    0
-}
+{}
 
-pub fn further_cases() -> u8
+pub fn further_cases()
     ensures { FurtherCases }
-{
-    0
-}
+{}
 
-pub fn worked_cases() -> u8
+pub fn worked_cases()
     ensures { WorkedCases }
-{
-    0
-}
+{}

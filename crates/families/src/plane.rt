@@ -5,6 +5,7 @@ ghost use Rattle.families.specs.Making.{count_answer, plane_answer};
 ghost use Rattle.families.specs.Plane.{plane_held, plane_holds, plane_shape};
 ghost use Rattle.families.specs.Lawful.{plane_lawful};
 
+use crate::blocks::{BlockCount, is_within};
 use crate::family::Family;
 use answers::{BlockNumber, Refusal, RowNumber};
 
@@ -28,27 +29,23 @@ static LINES: [[u16; 3]; 12] = [
 
 #[derive(Clone, Copy)]
 pub struct Plane {
-    n: u16,
-    ghost some: { 1 ≤ n },
-    ghost most: { n ≤ 12 },
+    blocks: BlockCount<12>,
 }
 
 impl Plane {
     pub fn new(n: u16) -> Result<Plane, Refusal>
-        ensures count { result_map_both (λ f. f.n) (λ e. e) result ≡ count_answer 12 n }
-        ensures answer { result_map_both (λ f. plane_shape f.n) (λ e. e) result ≡ plane_answer n }
+        ensures count { result_map_both (λ f. f.blocks.n) (λ e. e) result ≡ count_answer 12 n }
+        ensures answer { result_map_both (λ f. plane_shape f.blocks.n) (λ e. e) result ≡ plane_answer n }
     {
-        if n == 0 || n > 12 {
-            return Err(Refusal::BadBlockCount);
-        }
-        Ok(Plane { n })
+        let blocks = BlockCount::new(n)?;
+        Ok(Plane { blocks })
     }
 }
 
 impl Family for Plane {
-    ghost shape = { λ f. record { kind = 4; q = 0; k = 0; blocks = f.n; rows = 9; strength = 2; holds = plane_holds f.n } };
+    ghost shape = { λ f. record { kind = 4; q = 0; k = 0; blocks = f.blocks.n; rows = 9; strength = 2; holds = plane_holds f.blocks.n } };
 
-    ghost lawful = { λ f. plane_lawful f.n f.some f.most };
+    ghost lawful = { λ f. plane_lawful f.blocks.n f.blocks.some f.blocks.most };
 
     fn kind_byte(&self) -> u8 {
         4
@@ -63,7 +60,7 @@ impl Family for Plane {
     }
 
     fn block_count(&self) -> u16 {
-        self.n
+        self.blocks.get()
     }
 
     fn row_count(&self) -> u16 {
@@ -75,10 +72,7 @@ impl Family for Plane {
     }
 
     fn holds(&self, row: RowNumber, block: BlockNumber) -> bool {
-        if row.0 == 0 || row.0 > ROWS || block.0 == 0 || block.0 > self.n {
-            return false;
-        }
-        on_line(row.0, block.0)
+        is_within(ROWS, row.0) && is_within(self.blocks.get(), block.0) && on_line(row.0, block.0)
     }
 }
 
@@ -86,11 +80,5 @@ fn on_line(row: u16, block: u16) -> bool
     requires { (1 ≤ block) × (block ≤ 12) }
     ensures { result ≡ plane_held row block }
 {
-    one_of(row, LINES[block as usize - 1])
-}
-
-fn one_of(row: u16, line: [u16; 3]) -> bool
-    ensures { result ≡ (row == slice_index line 0 || (row == slice_index line 1 || row == slice_index line 2)) }
-{
-    row == line[0] || row == line[1] || row == line[2]
+    LINES[usize::from(block) - 1].contains(&row)
 }

@@ -6,6 +6,7 @@ ghost use Rattle.families.specs.Numbers.{among};
 ghost use Rattle.families.specs.Polynomial.{coefficient_counts, digits, value, poly_shape, Only, FirstWith};
 ghost use Rattle.families.specs.Lawful.{poly_lawful};
 
+use crate::blocks::{BlockCount, is_within};
 use crate::family::Family;
 use crate::fields::Field;
 use answers::{BlockNumber, Refusal, RowNumber};
@@ -14,34 +15,32 @@ use answers::{BlockNumber, Refusal, RowNumber};
 pub struct Polynomial<F> {
     field: F,
     k: u8,
-    n: u16,
-    ghost some: { 1 ≤ n },
-    ghost most: { n ≤ 512 },
+    blocks: BlockCount<512>,
     ghost degree: { among k coefficient_counts ≡ true },
 }
 
 impl<F: Field + Drop> Polynomial<F> {
     pub fn new(field: F, k: u8, n: u16) -> Result<Polynomial<F>, Refusal>
-        ensures { result_map_both (λ f. poly_shape (F.Field.order f.field) (F.Field.plus f.field) (F.Field.times f.field) f.k f.n) (λ e. e) result
-            ≡ poly_answer (F.Field.order field) (F.Field.plus field) (F.Field.times field) k n }
+        ensures { result_map_both (λ f. poly_shape (F.order f.field) (F.plus f.field) (F.times f.field) f.k f.blocks.n) (λ e. e) result
+            ≡ poly_answer (F.order field) (F.plus field) (F.times field) k n }
     {
-        if k < 2 || k > 4 {
+        if !(2..=4).contains(&k) {
             return Err(Refusal::NoSuchParameter);
         }
-        if n == 0 || n > 512 || n as u32 > power(field.q(), k) {
+        let blocks = BlockCount::new(n)?;
+        if u32::from(n) > power(field.q(), k) {
             return Err(Refusal::BadBlockCount);
         }
-        Ok(Polynomial { field, k, n })
+        Ok(Polynomial { field, k, blocks })
     }
 }
 
 impl<F: Field> Family for Polynomial<F> {
-    ghost shape = { λ f. poly_shape (F.Field.order f.field) (F.Field.plus f.field) (F.Field.times f.field) f.k f.n };
+    ghost shape = { λ f. poly_shape (F.order f.field) (F.plus f.field) (F.times f.field) f.k f.blocks.n };
 
     ghost lawful = { λ f.
-        let F' = F.Field in
-        poly_lawful (F'.order f.field) (F'.plus f.field) (F'.times f.field) (F.Field.lawful f.field) (F.Field.offered f.field)
-        f.k f.n f.degree f.some f.most };
+        poly_lawful (F.order f.field) (F.plus f.field) (F.times f.field) (F.lawful f.field) (F.offered f.field)
+        f.k f.blocks.n f.degree f.blocks.some f.blocks.most };
 
     fn kind_byte(&self) -> u8 {
         3
@@ -58,27 +57,23 @@ impl<F: Field> Family for Polynomial<F> {
     // No field of the struct can say that n polynomials exist, so that is seen to here.
     fn block_count(&self) -> u16 {
         let most = power(self.field.q(), self.k);
-        if most < self.n as u32 {
-            most as u16
-        } else {
-            self.n
-        }
+        most.min(u32::from(self.blocks.get())) as u16
     }
 
     fn row_count(&self) -> u16 {
-        let q = self.field.q() as u16;
+        let q = u16::from(self.field.q());
         q * q
     }
 
     fn strength(&self) -> u16 {
-        (self.field.q() as u16 - 1) / (self.k as u16 - 1)
+        (u16::from(self.field.q()) - 1) / (u16::from(self.k) - 1)
     }
 
     fn holds(&self, row: RowNumber, block: BlockNumber) -> bool {
-        if row.0 == 0 || row.0 > self.row_count() {
+        if !is_within(self.row_count(), row.0) {
             return false;
         }
-        if block.0 == 0 || block.0 > self.block_count() {
+        if !is_within(self.block_count(), block.0) {
             return false;
         }
         let (element, value) = point_of(row.0, self.field.q());
@@ -88,7 +83,7 @@ impl<F: Field> Family for Polynomial<F> {
     // Among blocks that differ in the constant alone, a row holds one, so that at most two lie between a block and the next.
     fn next_block(&self, row: RowNumber, after: BlockNumber) -> Option<BlockNumber> {
         let n = self.block_count();
-        if row.0 == 0 || row.0 > self.row_count() {
+        if !is_within(self.row_count(), row.0) {
             return None;
         }
         if after.0 >= n {
@@ -111,7 +106,7 @@ fn point_of(row: u16, q: u8) -> (u8, u8)
     ensures value { result.1 ≡ (row - 1) % q }
 {
     let place = row - 1;
-    ((place / q as u16) as u8, (place % q as u16) as u8)
+    ((place / u16::from(q)) as u8, (place % u16::from(q)) as u8)
 }
 
 // q^k
@@ -119,12 +114,12 @@ pub(crate) fn power(q: u8, k: u8) -> u32
     requires { (q ≤ 16) × (k ≤ 4) }
     ensures { result ≡ q ^ k }
 {
-    (q as u32).pow(k as u32)
+    u32::from(q).pow(u32::from(k))
 }
 
 // The value at an element of the polynomial whose coefficients are the k lowest digits of a number, the constant lowest.
 fn value_at<F: Field>(field: &F, k: u8, number: u16, element: u8) -> u8
-    ensures { result ≡ value (F.Field.plus field.now) (F.Field.times field.now) (digits (F.Field.order field.now) k number) element }
+    ensures { result ≡ value (F.plus field.now) (F.times field.now) (digits (F.order field.now) k number) element }
 {
     if k == 0 {
         return 0;
@@ -140,16 +135,16 @@ fn split_digit(number: u16, q: u8) -> (u8, u16)
     ensures digit { result.0 ≡ number % q }
     ensures higher { result.1 ≡ number / q }
 {
-    ((number % q as u16) as u8, number / q as u16)
+    ((number % u16::from(q)) as u8, number / u16::from(q))
 }
 
 // The first number, from one on, whose digits make a value at an element.
 fn first_with<F: Field>(field: &F, k: u8, element: u8, value: u8, from: u16) -> u16
-    requires { (1 ≤ k) × (value < F.Field.order field.now) × (from ≤ 512) }
-    ensures first { FirstWith (F.Field.order field.now) (F.Field.plus field.now) (F.Field.times field.now) k element value from result }
+    requires { (1 ≤ k) × (value < F.order field.now) × (from ≤ 512) }
+    ensures first { FirstWith (F.order field.now) (F.plus field.now) (F.times field.now) k element value from result }
     ensures bound { result ≤ 600 }
 {
-    let q = field.q() as u16;
+    let q = u16::from(field.q());
     let group = from / q;
     let here = group * q + constant_with(field, k, group, element, value);
     if from <= here {
@@ -160,9 +155,9 @@ fn first_with<F: Field>(field: &F, k: u8, element: u8, value: u8, from: u16) -> 
 
 // The lowest digit that makes a value at an element, with the digits of a number above it.
 fn constant_with<F: Field>(field: &F, k: u8, higher: u16, element: u8, value: u8) -> u16
-    requires { (1 ≤ k) × (value < F.Field.order field.now) }
-    ensures { Only (F.Field.order field.now) (F.Field.plus field.now) (F.Field.times field.now) (digits (F.Field.order field.now) (k - 1) higher) element value result }
+    requires { (1 ≤ k) × (value < F.order field.now) }
+    ensures { Only (F.order field.now) (F.plus field.now) (F.times field.now) (digits (F.order field.now) (k - 1) higher) element value result }
 {
     let rest = field.product(element, value_at(field, k - 1, higher, element));
-    field.sum(value, field.negative(rest)) as u16
+    u16::from(field.sum(value, field.negative(rest)))
 }

@@ -5,32 +5,29 @@ ghost use Rattle.families.specs.Making.{count_answer, single_answer};
 ghost use Rattle.families.specs.Single.{single_holds, single_shape};
 ghost use Rattle.families.specs.Lawful.{single_lawful};
 
+use crate::blocks::{BlockCount, is_within};
 use crate::family::Family;
 use answers::{BlockNumber, Refusal, RowNumber};
 
 #[derive(Clone, Copy)]
 pub struct Single {
-    n: u16,
-    ghost some: { 1 ≤ n },
-    ghost most: { n ≤ 512 },
+    blocks: BlockCount<512>,
 }
 
 impl Single {
     pub fn new(n: u16) -> Result<Single, Refusal>
-        ensures count { result_map_both (λ f. f.n) (λ e. e) result ≡ count_answer 512 n }
-        ensures answer { result_map_both (λ f. single_shape f.n) (λ e. e) result ≡ single_answer n }
+        ensures count { result_map_both (λ f. f.blocks.n) (λ e. e) result ≡ count_answer 512 n }
+        ensures answer { result_map_both (λ f. single_shape f.blocks.n) (λ e. e) result ≡ single_answer n }
     {
-        if n == 0 || n > 512 {
-            return Err(Refusal::BadBlockCount);
-        }
-        Ok(Single { n })
+        let blocks = BlockCount::new(n)?;
+        Ok(Single { blocks })
     }
 }
 
 impl Family for Single {
-    ghost shape = { λ f. record { kind = 1; q = 0; k = 0; blocks = f.n; rows = f.n; strength = f.n; holds = single_holds f.n } };
+    ghost shape = { λ f. record { kind = 1; q = 0; k = 0; blocks = f.blocks.n; rows = f.blocks.n; strength = f.blocks.n; holds = single_holds f.blocks.n } };
 
-    ghost lawful = { λ f. single_lawful f.n f.some f.most };
+    ghost lawful = { λ f. single_lawful f.blocks.n f.blocks.some f.blocks.most };
 
     fn kind_byte(&self) -> u8 {
         1
@@ -45,28 +42,28 @@ impl Family for Single {
     }
 
     fn block_count(&self) -> u16 {
-        self.n
+        self.blocks.get()
     }
 
     fn row_count(&self) -> u16 {
-        self.n
+        self.blocks.get()
     }
 
     fn strength(&self) -> u16 {
-        self.n
+        self.blocks.get()
     }
 
     fn next_block(&self, row: RowNumber, after: BlockNumber) -> Option<BlockNumber> {
         if row.0 <= after.0 {
             return None;
         }
-        if row.0 > self.n {
+        if row.0 > self.blocks.get() {
             return None;
         }
         Some(BlockNumber(row.0))
     }
 
     fn holds(&self, row: RowNumber, block: BlockNumber) -> bool {
-        1 <= row.0 && row.0 <= self.n && row.0 == block.0
+        is_within(self.blocks.get(), row.0) && row.0 == block.0
     }
 }

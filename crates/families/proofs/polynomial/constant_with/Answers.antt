@@ -11,6 +11,6 @@ returns g c =
     let product = g.F.Field.times f in
     let higher = digits q (c.args.k - 1) c.args.higher in
     let rest = c.product-rest.ensures ∙ ap (product c.args.element) c.value_at.ensures in
-    subst (Only q sum product higher c.args.element c.args.value) (sym c.sum.ensures)
+    subst (Only q sum product higher c.args.element c.args.value) (sym (c.from.ensures ∙ c.sum.ensures))
     (only_constant q sum product (g.met.F.Field.lawful f) higher c.args.element c.args.value c.product-rest.result c.negative.result
     rest c.requires.1 c.negative.ensures.0 c.negative.ensures.1)

@@ -1,3 +1,4 @@
+use Rattle.std.proofs.Common.{◌∙◌}
 use Rattle.families.specs.Lawful.{offered_range}
 use Rattle.families.proofs.PolynomialRows.{here_by, later_by}
 use Rattle.families.proofs.polynomial.first_with.Goals as goal
@@ -8,7 +9,7 @@ returns-then-from-here g c =
     let F = g.F.Field in
     let both =
     here_by (F.order f) (F.plus f) (F.times f) (g.met.F.Field.lawful f) c.args.k c.requires.0 c.args.element c.args.value
-    c.q-q.result c.args.from c.constant_with.result c.q-q.ensures (offered_range (F.order f) (g.met.F.Field.offered f)).1 c.requires.2
+    c.from-q.result c.args.from c.constant_with.result (c.from-q.ensures ∙ c.q.ensures) (offered_range (F.order f) (g.met.F.Field.offered f)).1 c.requires.2
     c.constant_with.ensures c.if-from-here.true
     in
     record { first = both.0; bound = both.1 }
@@ -19,7 +20,7 @@ returns g c =
     let F = g.F.Field in
     let both =
     later_by (F.order f) (F.plus f) (F.times f) (g.met.F.Field.lawful f) c.args.k c.requires.0 c.args.element c.args.value
-    c.q-q.result c.args.from c.constant_with.result c.constant_with-2.result c.q-q.ensures (offered_range (F.order f) (g.met.F.Field.offered f)).1 c.requires.2
+    c.from-q.result c.args.from c.constant_with.result c.constant_with-2.result (c.from-q.ensures ∙ c.q.ensures) (offered_range (F.order f) (g.met.F.Field.offered f)).1 c.requires.2
     c.constant_with.ensures c.if-from-here.false c.constant_with-2.ensures
     in
     record { first = both.0; bound = both.1 }

@@ -7,4 +7,4 @@ pow-requires c =
     let q = c.args.q in
     let k = c.args.k in
     let most : q ^ k ≤ 16 ^ 4 = le_trans (pow-le-pow_left c.requires.0 k) (pow-le-pow_right (omega arith) c.requires.1) in
-    omega arith
+    rw (c.from.ensures, c.from-2.ensures) (omega arith)

@@ -6,12 +6,12 @@ use Rattle.families.proofs.single.SingleFamily.next_block.Goals as goal
 
 pub returns-then-row-after : goal.returns-then-row-after
 returns-then-row-after c =
-    sym (ap (option_map block_number) (single_no_next c.args.self.now.n c.args.row.0 c.args.after.0 (inl (omega arith))))
+    sym (ap (option_map block_number) (single_no_next c.args.self.now.blocks.n c.args.row.0 c.args.after.0 (inl (omega arith))))
 
-pub returns-then-row-self : goal.returns-then-row-self
-returns-then-row-self c =
-    sym (ap (option_map block_number) (single_no_next c.args.self.now.n c.args.row.0 c.args.after.0 (inr (omega arith))))
+pub returns-then-row-get : goal.returns-then-row-get
+returns-then-row-get c =
+    sym (ap (option_map block_number) (single_no_next c.args.self.now.blocks.n c.args.row.0 c.args.after.0 (inr (omega arith))))
 
 pub returns : goal.returns
 returns c =
-    sym (ap (option_map block_number) (single_next c.args.self.now.n c.args.row.0 c.args.after.0 (omega arith) (omega arith)))
+    sym (ap (option_map block_number) (single_next c.args.self.now.blocks.n c.args.row.0 c.args.after.0 (omega arith) (omega arith)))
