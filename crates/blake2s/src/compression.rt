@@ -6,6 +6,7 @@ ghost use Rattle.blake2s.specs.States.{listed};
 use crate::rounds::{Rows, turn};
 use std::simd::prelude::*;
 
+// The numbers are those that SHA-256 starts with. Each standard names them itself, and neither crate rests on the other.
 pub const IV: [u32; 8] = [
     0x6a09_e667,
     0xbb67_ae85,

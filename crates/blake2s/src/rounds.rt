@@ -35,6 +35,7 @@ fn turned<const N: u32>(x: u32x4) -> u32x4
     (x >> u32x4::splat(N)) | (x << u32x4::splat(32 - N))
 }
 
+// SHA-256 has its own, highest byte first: one for both would take the order of bytes as a function, and be public.
 fn word_at(block: &[u8; 64], i: usize) -> u32
     requires { i < 16 }
     ensures { result ≡ word block.now i }
@@ -52,7 +53,7 @@ fn scheduled<const R: usize>(block: &[u8; 64], k: usize) -> u32
     requires { k < 16 }
     ensures { result ≡ word block.now (slice_index (slice_index_or sigma (R % 10) []) k) }
 {
-    word_at(block, SIGMA[R % 10][k] as usize)
+    word_at(block, usize::from(SIGMA[R % 10][k]))
 }
 
 // Every other message word of round R from word k on.
@@ -68,7 +69,7 @@ fn words<const R: usize>(block: &[u8; 64], k: usize) -> u32x4
     ])
 }
 
-// Four lines of the mixing, at four columns side by side.
+// Four lines of the mixing, at four columns side by side. No type says the range of a const parameter.
 #[inline(always)]
 fn half<const P: u32, const Q: u32>(v: Rows, x: u32x4) -> Rows
     requires p_range { (0 < P) × (P < 32) }

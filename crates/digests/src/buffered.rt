@@ -8,6 +8,7 @@ ghost use Rattle.digests.specs.Took.{Took};
 use crate::Digest;
 
 // The part of a digest that works on whole blocks: it absorbs one after the other, and finishes with a last piece of at most one block.
+// Four members are a digest's too: a trait above both would be a third for these alone.
 pub trait Compressor: Sized {
     // The number by which a seal names the digest.
     const KIND: u8;
@@ -27,6 +28,7 @@ pub trait Compressor: Sized {
         ensures { (bs : Bytes) → absorbed self.old bs → absorbed self.new (bs ++ block.now) };
 
     // The last piece is empty only where nothing was absorbed: some digests treat the last block otherwise than those before it.
+    // That it is short is a requires and no type: one would be made in one place, and opened at once.
     fn finish(self, last: &[u8]) -> [u8; 32]
         requires { length last.now ≤ 64 }
         ensures { (bs : Bytes) → absorbed self bs → (1 ≤ length last.now) ⊎ (bs ≡ []) → result ≡ digest (bs ++ last.now) };
@@ -37,7 +39,7 @@ pub trait Compressor: Sized {
 }
 
 // A compressor with the bytes that it has not absorbed yet. A full block waits until more bytes come, since it may be the last.
-// An array beside its count, and no ArrayVec: that lends a full block as a slice, and no `&[u8; 64]` without a conversion that could fail.
+// An array beside its count, and no `ArrayVec`: a compressor takes a block as an array, which that one gives only by a conversion and an `unwrap`.
 pub struct Buffered<C> {
     inner: C,
     held: [u8; 64],

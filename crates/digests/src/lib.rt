@@ -18,7 +18,7 @@ pub use mac::hmac;
 pub use words::join_words;
 
 pub trait Digest: Sized {
-    // The number by which a seal names the digest.
+    // The number by which a seal names the digest. No enum: a digest of another crate brings a number of its own.
     const KIND: u8;
 
     ghost KIND: { ℕ };

@@ -10,7 +10,7 @@ use answers::Refusal;
 pub struct Drawn {
     key: [u8; 8],
     number: u32,
-    // A flag and no second type: the drop asks for it, so that a lost number is a fact that fails, and each body that loses one can be tried.
+    // A flag, by the rule for a token: its drop is allowed, but only when it is spent.
     spent: bool,
 }
 

@@ -97,7 +97,7 @@ pub fn sign_next<S: Sealer>(sealer: &mut S, text: &[u8], out: &mut [u8]) -> Resu
     let drawn = draw(sealer)?;
     let number = drawn.number();
     // This cannot refuse: the number is drawn, and there is room.
-    let _ = sealer.sign(number, text, out);
+    sealer.sign(number, text, out).unwrap();
     let says = sealer.own().inspect(number, text, &out[..size]);
     burn(drawn);
     Ok(says)

@@ -7,7 +7,7 @@ use crate::schedule::{Words, next_sixteen};
 use crate::state::State;
 use std::simd::prelude::*;
 
-// The hash value after one block more.
+// The hash value after one block more. Four calls with the constants in their places, and no loop: it would carry the schedule along with the rounds, which is no plainer.
 pub fn compress(s: State, block: &[u8; 64]) -> State
     ensures { result ≡ compressed s block.now }
 {
@@ -90,6 +90,7 @@ fn four_words(block: &[u8; 64], at: usize) -> u32x4
     ])
 }
 
+// BLAKE2s has its own, lowest byte first: one for both would take the order of bytes as a function, and be public.
 fn word(block: &[u8; 64], at: usize) -> u32
     requires { at + 4 ≤ 64 }
     ensures { result ≡ word_at block.now at }

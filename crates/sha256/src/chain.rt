@@ -42,11 +42,13 @@ impl Compressor for Chain {
 
     fn finish(self, last: &[u8]) -> [u8; 32] {
         let Chain { state, count } = self;
+        // The cast stays: no `From` leads from `usize` to `u64`.
         let length = count.wrapping_add(last.len() as u64);
         big_endian(last_blocks(state, last, length))
     }
 }
 
+// Apart from `absorb`, whose clause speaks of all bytes so far.
 impl Chain {
     fn step(&mut self, block: &[u8; 64])
         ensures counted { self.new.count ≡ (self.old.count + 64) % 2 ^ 64 }
@@ -57,6 +59,7 @@ impl Chain {
     }
 }
 
+// BLAKE2s starts with the same numbers: each standard names them itself, and neither crate rests on the other.
 fn initial_state() -> State
     ensures { result ≡ initial }
 {
@@ -72,7 +75,7 @@ fn initial_state() -> State
     }
 }
 
-// The last bytes of a message of some length, padded to one block or two.
+// The last bytes of a message of some length, padded to one block or two. `Compressor::finish` says why their bound is no type.
 fn last_blocks(state: State, last: &[u8], message: u64) -> State
     requires { length last.now ≤ 64 }
     ensures { message % 64 ≡ length last.now % 64 → result ≡ hashed (length (last.now ++ padding message) / 64) (last.now ++ padding message) state }

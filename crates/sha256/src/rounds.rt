@@ -8,7 +8,7 @@ use crate::schedule::Words;
 use crate::state::State;
 use std::simd::prelude::*;
 
-// Three rotations to the right: Σ0 and Σ1 of the standard.
+// Three rotations to the right: Σ0 and Σ1 of the standard. No type says that a const parameter lies from 1 to 31.
 fn big<const I: u32, const J: u32, const K: u32>(x: u32) -> u32
     requires i_range { (0 < I) × (I < 32) }
     requires j_range { (0 < J) × (J < 32) }

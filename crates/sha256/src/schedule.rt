@@ -33,7 +33,7 @@ fn next_four(w: Words) -> u32x4
     low + small::<17, 19, 10>(none.shuffle(low, [0, 1, 4, 5]))
 }
 
-// Two rotations and a shift to the right, in each word: σ0 and σ1 of the standard.
+// Two rotations and a shift to the right, in each word: σ0 and σ1 of the standard. No type says the range of a const parameter.
 fn small<const I: u32, const J: u32, const K: u32>(x: u32x4) -> u32x4
     requires i_range { (0 < I) × (I < 32) }
     requires j_range { (0 < J) × (J < 32) }

@@ -6,6 +6,7 @@ use Rattle.std.specs.Iterator.{Yields}
 use Rattle.std.specs.List.{flat_map, IsFirstMatchOrLen}
 use Rattle.std.specs.Slice.Iter.{split_inclusive_rest, split_inclusive_callee}
 use Rattle.std.specs.declared.slice.SplitInclusive.{SplitInclusive}
+use Rattle.std.proofs.lemmas.Bool.{false≢true}
 use Rattle.std.proofs.lemmas.Bool.Decides.{nat_tests}
 use Rattle.std.proofs.lemmas.List.{take_at, drop_at, length_push, nil_from_length}
 use Rattle.sheets.specs.Table.{Bytes, pieces, line_ends}
@@ -147,14 +148,11 @@ lines_join (x ∷ xs) =
       | false ↦ joined_in_front x (lines xs) ∙ ap (λ t. x ∷ t) (lines_join xs)
     ]
 
-never : false ≡ true → ⊥
-never e = let z : ◌≡◌ {A = ℕ} 0 1 = cc in omega arith
-
 fronted : (x : ℕ) (ls : List Bytes) → eqb x 10 ≡ false → all_lines ls ≡ true → all_lines (in_front x ls) ≡ true
 fronted x [] e h = simp e
-fronted x ([] ∷ []) e h = absurd (never h)
+fronted x ([] ∷ []) e h = absurd (false≢true h)
 fronted x ((y ∷ ys) ∷ []) e h = simp e h
-fronted x ([] ∷ (m ∷ ms)) e h = absurd (never h)
+fronted x ([] ∷ (m ∷ ms)) e h = absurd (false≢true h)
 fronted x ((y ∷ ys) ∷ (m ∷ ms)) e h = simp e h
 
 ended_front : (x : ℕ) (ls : List Bytes) → eqb x 10 ≡ true → all_lines ls ≡ true → all_lines ((x ∷ []) ∷ ls) ≡ true

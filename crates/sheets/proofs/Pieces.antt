@@ -1,6 +1,7 @@
 -- Blocks in a run of bytes: how many, how long, one more, one other.
-use Rattle.std.proofs.Common.{◌≡◌, ℕ, zero, suc, ◌+◌, ◌-◌, ◌<◌, ◌≤◌, Bool, true, false, ◌&&◌, leb, List, [], ◌∷◌, ◌++◌, map, length, get_or, take, drop, set, sym, refl, ap, ◌∙◌, append_assoc, arith, length-append, length-drop, length-take, take-add}
+use Rattle.std.proofs.Common.{◌≡◌, ℕ, zero, suc, ◌+◌, ◌-◌, ◌<◌, ◌≤◌, true, leb, List, [], ◌∷◌, ◌++◌, map, length, get_or, take, drop, set, sym, refl, ap, ◌∙◌, append_assoc, arith, length-append, length-drop, length-take, take-add}
 use native.Mathlib.Nat.{sub_self}
+use Rattle.std.proofs.lemmas.Bool.{and_parts}
 use Rattle.std.proofs.lemmas.Bool.Decides.{nat_tests}
 use Rattle.std.proofs.lemmas.List.{drop-drop, nil_from_length, take_all, take-append-le, drop-append-le, take_at, drop_at}
 use Rattle.sheets.specs.Table.{Bytes, pieces, rises}
@@ -15,15 +16,10 @@ abbrev pub Rises : ℕ → List ℕ → ℕ → Type 0
 Rises start [] stop = start ≡ stop
 Rises start (end ∷ ends) stop = (start ≤ end) × Rises end ends stop
 
-both : (a b : Bool) → (a && b) ≡ true → (a ≡ true) × (b ≡ true)
-both true true e = (refl, refl)
-both true false e = (refl, e)
-both false b e = let z : ◌≡◌ {A = Bool} false true = e in (z, absurd (let n : ◌≡◌ {A = ℕ} 0 1 = cc in omega arith))
-
 pub risen : (start : ℕ) (ends : List ℕ) (stop : ℕ) → rises start ends stop ≡ true → Rises start ends stop
 risen start [] stop e = grind (arith, nat_tests)
 risen start (end ∷ ends) stop e =
-    let h = both (leb start end) (rises end ends stop) e in
+    let h = and_parts (leb start end) (rises end ends stop) e in
     (grind (arith, nat_tests), risen end ends stop h.1)
 
 pub rising : (start : ℕ) (ends : List ℕ) (stop : ℕ) → Rises start ends stop → rises start ends stop ≡ true

@@ -93,6 +93,7 @@ impl Sheet {
         Ok(total)
     }
 
+    // Neither this nor `append` can want memory: the room is reserved.
     #[tactic(auto, using(crate::proofs::Tells::cut_allows, crate::proofs::Known::none_held, crate::proofs::Known::count_is, crate::proofs::Lines::length_lines))]
     fn fill(&mut self, text: &[u8])
         requires { is_ok (cut_answer (blocks_of self.old) text.now) ≡ true }
