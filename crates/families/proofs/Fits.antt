@@ -2,7 +2,7 @@
 use Rattle.std.proofs.Common.{◌≡◌, ℕ, zero, suc, ◌+◌, ◌^◌, ◌<◌, ◌≤◌, Bool, true, false, not, eqb, leb, List, [], ◌∷◌, ◌++◌, length, get_or, drop, is_some, Some, None, Ok, Err, Option, Result, unwrap_or, sym, refl, ap, ◌∙◌, subst, inl, inr, append_assoc, arith}
 use Rattle.std.specs.List.{AllByRecursion}
 use Rattle.std.proofs.ByRecursion.{All-append}
-use Rattle.std.proofs.lemmas.Bool.{cases_Bool, cond-true, cond-false, and_parts, leb-true, eq-eqb, ne_eqb}
+use Rattle.std.proofs.lemmas.Bool.{cases_Bool, cond-true, cond-false, and_parts, leb-true, ne_eqb}
 use Rattle.std.proofs.lemmas.Bool.Decides.{nat_tests}
 use Rattle.families.specs.Numbers.{among}
 use Rattle.families.specs.Field.{orders}
@@ -111,9 +111,6 @@ answered n d o low high e =
     ∙ ap (λ x. unless ((not (is_some x), NoSuchParameter) ∷ []) (unwrap_or x (halves_shape n))) e
 
 module _ (n d : ℕ) (low : 1 ≤ n) (high : n ≤ 512) where
-  pub choose_one : d ≡ 1 → choose_answer n d ≡ Ok (halves_shape n)
-  choose_one e = answered n d (Some (halves_shape n)) low high (cond-true _ _ _ (eq-eqb d 1 e))
-
   module _ (ne : d ≡ 1 → ⊥) where
     pub choose_pair : (p : Pair) → Some p ≡ first_fit n d pairs → choose_answer n d ≡ Ok (numbered_shape p.0 p.1 n)
     choose_pair p e = answered n d (Some (numbered_shape p.0 p.1 n)) low high (chosen_is n d (Some p) ne e)

@@ -1,10 +1,12 @@
 -- Numbers in the order of their rank among those with half of their bits one.
-use Rattle.std.proofs.Common.{◌≡◌, ℕ, zero, suc, ◌+◌, ◌-◌, ◌/◌, ◌%◌, ◌^◌, ◌<◌, ◌≤◌, min, Bool, true, false, cond, eqb, ◌≢◌, List, [], ◌∷◌, length, get_or, set, sym, refl, ap, ◌∙◌, ap₂, inl, inr, div-one, add-one, arith, length-set, get_or-set_other, get_or-set_same}
+use Rattle.std.proofs.Common.{◌≡◌, ℕ, zero, suc, ◌+◌, ◌-◌, ◌/◌, ◌%◌, ◌^◌, ◌<◌, ◌≤◌, min, Bool, true, cond, eqb, leb, ltb, ◌&&◌, List, [], ◌∷◌, length, get_or, sym, refl, ap, ◌∙◌, ap₂, inl, inr, le_trans, div-one, arith}
 use lib.Count.{ones, ones_step}
-use Rattle.std.proofs.lemmas.Bool.{cases_Bool, cases_eq, and_parts, and_from, eq-eqb, eqb-true, eqb-false, cond-true, cond-false, le-leb, lt-leb}
+use Rattle.std.proofs.lemmas.Bool.{cases_Bool, and_parts, eqb-true, eqb-false, cond-true, cond-false, le-leb, leb-true, lt-leb}
+use Rattle.std.specs.List.Sorted.{IsPartitionedBy}
+use Rattle.std.proofs.lemmas.List.Sorted.{IsPartitionedBy-ltb}
 use Rattle.families.specs.Numbers.{count}
-use Rattle.families.specs.Halves.{bit, half_ones, halves_held, first_limit, Ranked}
-use Rattle.families.specs.HalvesLaw.{bit_next, count_grows, held, not_held}
+use Rattle.families.specs.Halves.{bit, half_ones, halves_held, limits, first_limit, Ranked}
+use Rattle.families.specs.HalvesLaw.{bit_next, held, not_held}
 
 -- the first number counted apart
 count_first : (f : ℕ → Bool) (n : ℕ) → count f (suc n) ≡ cond (f 0) 1 0 + count (λ i. f (suc i)) n
@@ -38,20 +40,6 @@ ones_counted (suc t) v h =
     ∙ ap₂ (λ a b. a + b) (low_bit v) (count_alike (λ i. bit v (suc i)) (bit (v / 2)) t (λ i. sym (bit_next v i)) ∙ ones_counted t (v / 2) (omega arith))
     ∙ sym (ones_step v)
 
--- one number more in its place
-pub ranked_more : (t found v : ℕ) (words : List ℕ) → found < length words → v < 2 ^ t → half_ones t v ≡ true → count (half_ones t) v ≡ found
-    → Ranked t found words → Ranked t (found + 1) (set words found v)
-ranked_more t found v words room low half rank before i h =
-    elim (cases_eq i found) [
-      | inl at ↦
-          let here : get_or (set words found v) i 0 ≡ v = rw at (get_or-set_same words found v 0 room) in
-          let place : found ≡ i + 1 - 1 = omega arith in
-          rw here (low, and_from (half_ones t v) (eqb (count (half_ones t) v) (i + 1 - 1)) half (eq-eqb (count (half_ones t) v) (i + 1 - 1) (rank ∙ place)))
-      | inr off ↦
-          let other : i ≢ found = off in
-          rw get_or-set_other (before i (omega arith))
-    ]
-
 -- a block's rows are the ones of its number
 pub ranked_bit : (t n : ℕ) (words : List ℕ) → 2 ≤ t → Ranked t n words → (row block : ℕ) → 1 ≤ row → 1 ≤ block → block ≤ n
     → bit (get_or words (block - 1) 0) (row - 1) ≡ halves_held t row block
@@ -75,29 +63,31 @@ first_limit_at (l ∷ ls) t n (suc i) h low here =
     cond-false _ _ _ (lt-leb n l (low 0 (omega arith)))
     ∙ first_limit_at ls (suc t) n i (omega arith) (λ k lt. low (suc k) (omega arith)) here ∙ omega arith
 
+-- numbers that do not fall, from one on
+abbrev climbs : ℕ → List ℕ → Bool
+climbs low [] = true
+climbs low (x ∷ xs) = leb low x && climbs x xs
+
+above : (low : ℕ) (ls : List ℕ) → climbs low ls ≡ true → (j d : ℕ) → j < length ls → low ≤ get_or ls j d
+above low [] e j d h = absurd (omega arith)
+above low (x ∷ xs) e zero d h = leb-true low x (and_parts (leb low x) (climbs x xs) e).0
+above low (x ∷ xs) e (suc j) d h =
+    let parts = and_parts (leb low x) (climbs x xs) e in
+    le_trans (leb-true low x parts.0) (above x xs parts.1 j d (omega arith))
+
+climbing : (low : ℕ) (ls : List ℕ) → climbs low ls ≡ true → (i j d : ℕ) → i ≤ j → j < length ls → get_or ls i d ≤ get_or ls j d
+climbing low [] e i j d le h = absurd (omega arith)
+climbing low (x ∷ xs) e zero zero d le h = omega arith
+climbing low (x ∷ xs) e zero (suc j) d le h = above x xs (and_parts (leb low x) (climbs x xs) e).1 j d (omega arith)
+climbing low (x ∷ xs) e (suc i) zero d le h = absurd (omega arith)
+climbing low (x ∷ xs) e (suc i) (suc j) d le h = climbing x xs (and_parts (leb low x) (climbs x xs) e).1 i j d (omega arith) (omega arith)
+
+-- the limits rise, so those below a number stand first
+pub limits_parted : (n : ℕ) → IsPartitionedBy (λ limit. ltb limit n) limits
+limits_parted n = IsPartitionedBy-ltb (λ limit. limit) limits n (climbing 0 limits refl)
+
 -- The loop over all numbers: so many are found, and there is room for no more than 512.
 pub record Found (t word : ℕ) (words : List ℕ) (found : ℕ) : Type 0 where
   pub many : found ≡ min 512 (count (half_ones t) word)
   pub room : length words ≡ 512
   pub ranked : Ranked t found words
-
-pub found_here : (t word : ℕ) (words : List ℕ) (found : ℕ) → word < 2 ^ t → found < 512 → true ≡ half_ones t word → Found t word words found
-    → Found t (word + 1) (set words found word) (found + 1)
-found_here t word words found low less half so_far =
-    let more : count (half_ones t) (word + 1) ≡ 1 + count (half_ones t) word = rw add-one (ap (λ b. cond b 1 0 + count (half_ones t) word) (sym half)) in
-    let rank : count (half_ones t) word ≡ found = omega (arith, so_far.many) in
-    record {
-      many = omega arith;
-      room = length-set words found word ∙ so_far.room;
-      ranked = ranked_more t found word words (omega (arith, so_far.room)) low (sym half) rank so_far.ranked;
-    }
-
-pub found_none : (t word : ℕ) (words : List ℕ) (found : ℕ) → false ≡ half_ones t word → Found t word words found → Found t (word + 1) words found
-found_none t word words found half so_far =
-    let same : count (half_ones t) (word + 1) ≡ 0 + count (half_ones t) word = rw add-one (ap (λ b. cond b 1 0 + count (half_ones t) word) (sym half)) in
-    record { many = omega (arith, so_far.many); room = so_far.room; ranked = so_far.ranked }
-
-pub found_full : (t word : ℕ) (words : List ℕ) (found : ℕ) → 512 ≤ found → Found t word words found → Found t (word + 1) words found
-found_full t word words found full so_far =
-    let more = count_grows (half_ones t) word (word + 1) (omega arith) in
-    record { many = omega (arith, so_far.many); room = so_far.room; ranked = so_far.ranked }

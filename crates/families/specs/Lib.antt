@@ -6,6 +6,7 @@ pub mod Single
 pub mod Halves
 pub mod Polynomial
 pub mod Plane
+pub mod Degrees
 pub mod Making
 pub mod Choice
 pub mod Any
@@ -25,3 +26,4 @@ pub mod PlaneLaw
 pub mod PolynomialLaw
 pub mod Lawful
 pub mod Numbered
+pub mod Known

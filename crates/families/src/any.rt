@@ -5,6 +5,8 @@ ghost use Rattle.families.specs.Any.{any_shape};
 ghost use Rattle.families.specs.Choice.{numbered_answer};
 ghost use Rattle.families.specs.Making.{single_answer, halves_answer, plane_answer};
 ghost use Rattle.families.specs.declared.any.AnyFamily.TheVariants.{Single, Halves, PrimePolynomial, BinaryPolynomial, Plane};
+ghost use Rattle.families.specs.Degrees.{degree};
+ghost use Rattle.families.specs.Known.{degree_known};
 ghost use Rattle.families.specs.Field.{mod_sum, mod_product, binary_sum, binary_product, modulus};
 ghost use Rattle.families.specs.Primes.{prime_field};
 ghost use Rattle.families.specs.Binary.{binary_field};
@@ -64,7 +66,7 @@ impl AnyFamily {
     }
 }
 
-// The same question to the family of whatever kind. No `dyn Family`: a call that chooses a family would have to hand it out in a box, and takes no memory.
+// The same question to the family of whatever kind. No `dyn Family`: Rattle refuses a function that makes one and hands it out, as a call that chooses a family would.
 macro_rules! ask {
     ($any:expr, $family:ident => $answer:expr) => {
         match $any {
@@ -87,8 +89,8 @@ impl Family for AnyFamily {
           let q = f.field.q in
           poly_lawful q (mod_sum q) (mod_product q) (prime_field q f.field.prime) (prime_offered q f.field.prime) f.k f.blocks.n f.degree f.blocks.some f.blocks.most
       | BinaryPolynomial f ↦
-          let e = f.field.degree in
-          poly_lawful (2 ^ e) (binary_sum e) (binary_product e (modulus e)) (binary_field e f.field.known) (degree_offered e f.field.known) f.k f.blocks.n f.degree f.blocks.some f.blocks.most
+          let e = degree f.field in
+          poly_lawful (2 ^ e) (binary_sum e) (binary_product e (modulus e)) (binary_field e (degree_known f.field)) (degree_offered e (degree_known f.field)) f.k f.blocks.n f.degree f.blocks.some f.blocks.most
       | Plane f ↦ plane_lawful f.blocks.n f.blocks.some f.blocks.most
     ] };
 

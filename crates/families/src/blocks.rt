@@ -15,6 +15,7 @@ pub(crate) struct BlockCount<const MOST: u16> {
 }
 
 impl<const MOST: u16> BlockCount<MOST> {
+    // Each kind is made through this. What is left of their `new`s makes each its own type.
     pub(crate) fn new(n: u16) -> Result<BlockCount<MOST>, Refusal>
         ensures { result_map_both (λ c. c.n) (λ e. e) result ≡ count_answer MOST n }
     {
@@ -32,7 +33,7 @@ impl<const MOST: u16> BlockCount<MOST> {
     }
 }
 
-// Whether a row or a block has a number from 1 up to a count.
+// Whether a row or a block has a number from 1 up to a count. Each `holds` asks it: one `holds` for all kinds would need a second question beside it, that asks for numbers within.
 pub(crate) fn is_within(count: u16, number: u16) -> bool
     ensures { result ≡ within count number }
 {

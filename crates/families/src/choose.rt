@@ -10,7 +10,7 @@ use crate::blocks::BlockCount;
 use crate::polynomial::power;
 use answers::Refusal;
 
-// q and k on offer, by q and then k.
+// q and k on offer, by q and then k. Pairs and no struct: a seal writes the two numbers apart, and so do the definitions.
 static PAIRS: [(u8, u8); 18] = [
     (5, 2),
     (5, 3),
@@ -47,6 +47,7 @@ pub fn choose(n: u16, d: u16) -> Result<AnyFamily, Refusal>
     AnyFamily::polynomial(q, k, n)
 }
 
+// Apart from the search, which is proved over any list of pairs on offer.
 fn offered_pair(n: u16, d: u16) -> Option<(u8, u8)>
     ensures { result ≡ first_fit n d pairs }
 {

@@ -12,6 +12,7 @@ pub trait Family {
     fn kind_byte(&self) -> u8
         ensures { result ≡ (shape self.now).kind };
 
+    // q and k are 0 where the kind has none, as a seal writes them.
     fn q(&self) -> u8
         ensures { result ≡ (shape self.now).q };
 
@@ -31,7 +32,7 @@ pub trait Family {
     fn holds(&self, row: RowNumber, block: BlockNumber) -> bool
         ensures { result ≡ (shape self.now).holds row.0 block.0 };
 
-    // The lowest block above another that a row holds: so a row's blocks are visited one after the other, and not all n asked for each row.
+    // The lowest block above another that a row holds: so a row's blocks are visited one after the other, and not all n asked for each row. `after` is 0 before the first.
     fn next_block(&self, row: RowNumber, after: BlockNumber) -> Option<BlockNumber>
         ensures { result ≡ next_held (shape self.now) row.0 after.0 }
     {

@@ -3,15 +3,18 @@ ghost use Rattle.std.specs.Prelude.{◌≡◌, ℕ, ◌^◌, ◌<◌, true, fals
 ghost use Rattle.std.specs.Result.{result_map_both};
 ghost use Rattle.answers.specs.declared.Refusal.TheVariants.{NoSuchParameter};
 ghost use Rattle.families.specs.Choice.{product_of};
+ghost use Rattle.families.specs.Degrees.{degree};
+ghost use Rattle.families.specs.Known.{degree_known};
 ghost use Rattle.families.specs.Field.{primes, binaries, field_answer, FieldLaws, mod_sum, mod_product, binary_sum, binary_product, modulus, tabled};
 ghost use Rattle.families.specs.Numbers.{among};
 ghost use Rattle.families.specs.Primes.{prime_field};
 ghost use Rattle.std.proofs.Common.{rules};
 ghost use Rattle.families.specs.Binary.{binary_field};
+ghost use Rattle.families.specs.Numbered.{degree_offered};
 
 use answers::Refusal;
 
-// Arguments are reduced by q.
+// Arguments are reduced by q. Three members and no record: the laws and the definitions take each on its own, and few take all.
 pub trait Field {
     ghost order: { Self → ℕ };
 
@@ -115,39 +118,42 @@ static PRODUCTS16: [[u8; 16]; 16] = [
     [0, 15, 13, 2, 9, 6, 4, 11, 1, 14, 12, 3, 8, 7, 5, 10],
 ];
 
-// The bit polynomials of a degree below 3 or 4.
+// The bit polynomials of a degree below 3, which are eight, or below 4, which are sixteen.
 #[derive(Clone, Copy)]
-pub struct Binary {
-    degree: u8,
-    ghost known: { among degree (3 ∷ (4 ∷ [])) ≡ true },
+pub enum Binary {
+    Eight,
+    Sixteen,
 }
 
 impl Binary {
     pub fn new(q: u8) -> Result<Binary, Refusal>
-        ensures cases { MatchResult result (λ f. 2 ^ f.degree ≡ q) (λ e. (e ≡ NoSuchParameter) × (among q (8 ∷ (16 ∷ [])) ≡ false)) }
-        ensures answer { result_map_both (λ f. 2 ^ f.degree) (λ e. e) result ≡ field_answer binaries q }
+        ensures cases { MatchResult result (λ f. 2 ^ degree f ≡ q) (λ e. (e ≡ NoSuchParameter) × (among q (8 ∷ (16 ∷ [])) ≡ false)) }
+        ensures answer { result_map_both (λ f. 2 ^ degree f) (λ e. e) result ≡ field_answer binaries q }
     {
         match q {
-            8 => Ok(Binary { degree: 3 }),
-            16 => Ok(Binary { degree: 4 }),
+            8 => Ok(Binary::Eight),
+            16 => Ok(Binary::Sixteen),
             _ => Err(Refusal::NoSuchParameter),
         }
     }
 }
 
 impl Field for Binary {
-    ghost order = { λ f. 2 ^ f.degree };
+    ghost order = { λ f. 2 ^ degree f };
 
-    ghost plus = { λ f. binary_sum f.degree };
+    ghost plus = { λ f. binary_sum (degree f) };
 
-    ghost times = { λ f. binary_product f.degree (modulus f.degree) };
+    ghost times = { λ f. binary_product (degree f) (modulus (degree f)) };
 
-    ghost lawful = { λ f. binary_field f.degree f.known };
+    ghost lawful = { λ f. binary_field (degree f) (degree_known f) };
 
-    ghost offered = { Prim.search rules };
+    ghost offered = { λ f. degree_offered (degree f) (degree_known f) };
 
     fn q(&self) -> u8 {
-        if self.degree == 3 { 8 } else { 16 }
+        match self {
+            Binary::Eight => 8,
+            Binary::Sixteen => 16,
+        }
     }
 
     fn sum(&self, a: u8, b: u8) -> u8 {
@@ -156,10 +162,9 @@ impl Field for Binary {
     }
 
     fn product(&self, a: u8, b: u8) -> u8 {
-        if self.degree == 3 {
-            product_in(&PRODUCTS8, a, b)
-        } else {
-            product_in(&PRODUCTS16, a, b)
+        match self {
+            Binary::Eight => product_in(&PRODUCTS8, a, b),
+            Binary::Sixteen => product_in(&PRODUCTS16, a, b),
         }
     }
 

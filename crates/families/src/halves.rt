@@ -17,7 +17,7 @@ static LIMITS: [u16; 11] = [2, 3, 6, 10, 20, 35, 70, 126, 252, 462, 924];
 pub struct Halves {
     blocks: BlockCount<512>,
     t: u16,
-    // The number that each block takes, so that none is worked out twice. An array beside the count: `Halves` is copied, and no call takes memory.
+    // The number that each block takes, so that none is worked out twice. An array beside the count: an `ArrayVec` is not `Copy`, as `Halves` is for its users.
     words: [u16; 512],
     ghost rows: { t ≡ halves_rows blocks.n },
     ghost ranked: { Ranked t blocks.n words },
@@ -63,20 +63,21 @@ impl Family for Halves {
         1
     }
 
+    // The same tests as every kind's; `is_within` says why they stand in each.
     fn holds(&self, row: RowNumber, block: BlockNumber) -> bool {
         is_within(self.t, row.0)
             && is_within(self.blocks.get(), block.0)
-            && self.has_one(row.0, block.0)
+            && self.has_one(row, block)
     }
 }
 
 impl Halves {
-    // Whether a block's number has a one at a row's bit.
-    fn has_one(&self, row: u16, block: u16) -> bool
-        requires { (1 ≤ row) × (row ≤ self.now.t) × (1 ≤ block) × (block ≤ self.now.blocks.n) }
-        ensures { result ≡ halves_held (halves_rows self.now.blocks.n) row block }
+    // Whether a block's number has a one at a row's bit. No `index` of the block: it would be unwrapped at once.
+    fn has_one(&self, row: RowNumber, block: BlockNumber) -> bool
+        requires { (1 ≤ row.0) × (row.0 ≤ self.now.t) × (1 ≤ block.0) × (block.0 ≤ self.now.blocks.n) }
+        ensures { result ≡ halves_held (halves_rows self.now.blocks.n) row.0 block.0 }
     {
-        (self.words[usize::from(block) - 1] >> (row - 1)) % 2 == 1
+        (self.words[usize::from(block.0) - 1] >> (row.0 - 1)) % 2 == 1
     }
 }
 
@@ -86,12 +87,7 @@ fn rows_for(n: u16) -> u16
     ensures value { result ≡ halves_rows n }
     ensures bound { result ≤ 12 }
 {
-    for (i, limit) in LIMITS.iter().enumerate() {
-        if n <= *limit {
-            return i as u16 + 2;
-        }
-    }
-    unreachable()
+    LIMITS.partition_point(|limit| *limit < n) as u16 + 2
 }
 
 // The first n numbers with ⌊t/2⌋ ones, of which there are as many.

@@ -23,18 +23,22 @@ pub fn bounded_inside()
     ensures { BoundedInside }
 {}
 
+#[tactic(auto, using(crate::specs::Roots::root_counting))]
 pub fn root_counting()
     ensures { RootCounting }
 {}
 
+#[tactic(auto, using(crate::specs::PolynomialLaw::coefficients_differ))]
 pub fn coefficients_differ()
     ensures { CoefficientsDiffer }
 {}
 
+#[tactic(auto, using(crate::specs::PolynomialLaw::polynomial_cover_free))]
 pub fn polynomial_cover_free()
     ensures { PolynomialCoverFree }
 {}
 
+#[tactic(auto, using(crate::specs::SingleLaw::single_cover_free))]
 pub fn single_cover_free()
     ensures { SingleCoverFree }
 {}
@@ -43,24 +47,29 @@ pub fn limits_counted()
     ensures { LimitsCounted }
 {}
 
+#[tactic(auto, using(crate::specs::HalvesLaw::halves_cover_free))]
 pub fn halves_cover_free()
     ensures { HalvesCoverFree }
 {}
 
+#[tactic(auto, using(crate::specs::PlaneLaw::plane_cover_free))]
 pub fn plane_cover_free()
     ensures { PlaneCoverFree }
 {}
 
 // The numbers modulo 5, 7, 11 and 13 keep the laws of a field.
+#[tactic(auto, using(crate::specs::Primes::prime_fields))]
 pub fn prime_fields()
     ensures { PrimeFields }
 {}
 
 // So do the bit polynomials modulo 1011 and 10011.
+#[tactic(auto, using(crate::specs::Binary::binary_fields))]
 pub fn binary_fields()
     ensures { BinaryFields }
 {}
 
+#[tactic(auto, using(crate::proofs::Cases::further_cases))]
 pub fn further_cases()
     ensures { FurtherCases }
 {}

@@ -33,6 +33,7 @@ pub struct Plane {
 }
 
 impl Plane {
+    // As `Single::new`: what is left beside the count makes a type of its own.
     pub fn new(n: u16) -> Result<Plane, Refusal>
         ensures count { result_map_both (λ f. f.blocks.n) (λ e. e) result ≡ count_answer 12 n }
         ensures answer { result_map_both (λ f. plane_shape f.blocks.n) (λ e. e) result ≡ plane_answer n }
@@ -71,14 +72,16 @@ impl Family for Plane {
         2
     }
 
+    // The same tests as every kind's; `is_within` says why they stand in each.
     fn holds(&self, row: RowNumber, block: BlockNumber) -> bool {
-        is_within(ROWS, row.0) && is_within(self.blocks.get(), block.0) && on_line(row.0, block.0)
+        is_within(ROWS, row.0) && is_within(self.blocks.get(), block.0) && on_line(row, block)
     }
 }
 
-fn on_line(row: u16, block: u16) -> bool
-    requires { (1 ≤ block) × (block ≤ 12) }
-    ensures { result ≡ plane_held row block }
+// No `index` of the block: it would be unwrapped at once.
+fn on_line(row: RowNumber, block: BlockNumber) -> bool
+    requires { (1 ≤ block.0) × (block.0 ≤ 12) }
+    ensures { result ≡ plane_held row.0 block.0 }
 {
-    LINES[usize::from(block) - 1].contains(&row)
+    LINES[usize::from(block.0) - 1].contains(&row.0)
 }

@@ -54,7 +54,7 @@ impl<F: Field> Family for Polynomial<F> {
         self.k
     }
 
-    // No field of the struct can say that n polynomials exist, so that is seen to here.
+    // Capped here, whatever the field: so the struct asks nothing of the field and the count together.
     fn block_count(&self) -> u16 {
         let most = power(self.field.q(), self.k);
         most.min(u32::from(self.blocks.get())) as u16
@@ -69,6 +69,7 @@ impl<F: Field> Family for Polynomial<F> {
         (u16::from(self.field.q()) - 1) / (u16::from(self.k) - 1)
     }
 
+    // The same tests as every kind's; `is_within` says why they stand in each.
     fn holds(&self, row: RowNumber, block: BlockNumber) -> bool {
         if !is_within(self.row_count(), row.0) {
             return false;
@@ -76,7 +77,7 @@ impl<F: Field> Family for Polynomial<F> {
         if !is_within(self.block_count(), block.0) {
             return false;
         }
-        let (element, value) = point_of(row.0, self.field.q());
+        let (element, value) = point_of(row, self.field.q());
         value_at(&self.field, self.k, block.0 - 1, element) == value
     }
 
@@ -89,7 +90,7 @@ impl<F: Field> Family for Polynomial<F> {
         if after.0 >= n {
             return None;
         }
-        let (element, value) = point_of(row.0, self.field.q());
+        let (element, value) = point_of(row, self.field.q());
         let next = first_with(&self.field, self.k, element, value, after.0);
         if next < n {
             Some(BlockNumber(next + 1))
@@ -100,12 +101,12 @@ impl<F: Field> Family for Polynomial<F> {
 }
 
 // The element that a row belongs to, and the value there.
-fn point_of(row: u16, q: u8) -> (u8, u8)
-    requires { (1 ≤ q) × (1 ≤ row) × (row ≤ 256) }
-    ensures element { result.0 ≡ (row - 1) / q }
-    ensures value { result.1 ≡ (row - 1) % q }
+fn point_of(row: RowNumber, q: u8) -> (u8, u8)
+    requires { (1 ≤ q) × (1 ≤ row.0) × (row.0 ≤ 256) }
+    ensures element { result.0 ≡ (row.0 - 1) / q }
+    ensures value { result.1 ≡ (row.0 - 1) % q }
 {
-    let place = row - 1;
+    let place = row.0 - 1;
     ((place / u16::from(q)) as u8, (place % u16::from(q)) as u8)
 }
 
@@ -118,6 +119,7 @@ pub(crate) fn power(q: u8, k: u8) -> u32
 }
 
 // The value at an element of the polynomial whose coefficients are the k lowest digits of a number, the constant lowest.
+// Field and k are two parameters here and below, and no struct: k falls by one from coefficient to coefficient.
 fn value_at<F: Field>(field: &F, k: u8, number: u16, element: u8) -> u8
     ensures { result ≡ value (F.plus field.now) (F.times field.now) (digits (F.order field.now) k number) element }
 {

@@ -15,6 +15,7 @@ pub struct Single {
 }
 
 impl Single {
+    // As `Plane::new`: what is left beside the count makes a type of its own.
     pub fn new(n: u16) -> Result<Single, Refusal>
         ensures count { result_map_both (λ f. f.blocks.n) (λ e. e) result ≡ count_answer 512 n }
         ensures answer { result_map_both (λ f. single_shape f.blocks.n) (λ e. e) result ≡ single_answer n }
@@ -53,6 +54,7 @@ impl Family for Single {
         self.blocks.get()
     }
 
+    // From `after` on and not from 1, so no `is_within`.
     fn next_block(&self, row: RowNumber, after: BlockNumber) -> Option<BlockNumber> {
         if row.0 <= after.0 {
             return None;

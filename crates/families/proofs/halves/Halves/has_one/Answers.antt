@@ -9,8 +9,8 @@ returns c =
     let f = c.args.self.now in
     let range = rows_range f.blocks.n (omega (arith, f.blocks.most)) in
     let two : 2 ≤ f.t = omega (arith, range.0, f.rows) in
-    rw c.from.ensures (ranked_bit f.t f.blocks.n f.words two f.ranked c.args.row c.args.block (omega arith) (omega arith) (omega arith)
-    ∙ ap (λ t. halves_held t c.args.row c.args.block) f.rows)
+    rw c.from.ensures (ranked_bit f.t f.blocks.n f.words two f.ranked c.args.row.0 c.args.block.0 (omega arith) (omega arith) (omega arith)
+    ∙ ap (λ t. halves_held t c.args.row.0 c.args.block.0) f.rows)
 
 pub overflow_shr-result : goal.overflow_shr-result
 overflow_shr-result c =
