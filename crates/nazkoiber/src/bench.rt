@@ -82,7 +82,7 @@ impl Bench {
         print_answer(word, answer.as_bytes(), out)
     }
 
-    // Runs the call that a line says, if it says one.
+    // Runs the call that a line says, if it says one. That a line is not understood is an answer; want of memory goes on.
     fn answer_line(&mut self, line: &[u8]) -> Result<String, AllocError>
         ensures after { OnOk result (blocks self.new ≡ told_after (line_told line.now) (blocks self.old)) }
         ensures text { IfOk result (λ s. string_bytes s ≡ told_text (line_told line.now) (blocks self.old)) }
@@ -94,7 +94,7 @@ impl Bench {
         }
     }
 
-    // A refusal is an answer too.
+    // A refusal is an answer too; want of memory goes on.
     fn run(&mut self, call: &Call) -> Result<String, AllocError>
         ensures after { OnOk result (blocks self.new ≡ blocks_after (told call.now) (blocks self.old)) }
         ensures text { IfOk result (λ s. string_bytes s ≡ answer_text (told call.now) (blocks self.old)) }

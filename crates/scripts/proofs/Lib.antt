@@ -1,3 +1,4 @@
 pub mod WordLemmas
 pub mod HexLemmas
+pub mod TableLemmas
 pub mod LineLemmas

@@ -1,7 +1,6 @@
 -- The words of a script line, and the numbers that words stand for. Assumes nothing.
 use Rattle.std.specs.Prelude.{ℕ, ◌+◌, ◌-◌, ◌*◌, Bool, cond, ◌&&◌, List, [], ◌∷◌, Some, None, Option, ◌==◌, nat_le}
 use Rattle.std.specs.Str.{bytes_eq}
-use denote.Ref.{Bor}
 
 abbrev pub Bytes : Type 0
 Bytes = List ℕ
@@ -42,10 +41,6 @@ number_of (x ∷ xs) most = at_most most (digits_of 0 (x ∷ xs))
 abbrev pub alone : {A : Type 0} → A → Option Bytes → Option A
 alone a None = Some a
 alone a (Some rest) = None
-
--- a row of a table, by the bytes of its name
-abbrev pub named : {A : Type 0} → Bor Bytes × A → Bytes × A
-named row = (row.0.now, row.1)
 
 -- what the table has at a word
 abbrev pub entry_at : {A : Type 0} → List (Bytes × A) → Bytes → Option A

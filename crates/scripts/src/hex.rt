@@ -45,6 +45,7 @@ fn decode_pair(high: u8, low: u8) -> Option<u8>
     Some(decode_digit(high)? * 16 + decode_digit(low)?)
 }
 
+// No `char::to_digit`: it takes upper case.
 fn decode_digit(digit: u8) -> Option<u8>
     ensures value { result ≡ hex_value digit }
     ensures bound { IfSome result (λ d. d < 16) }
@@ -56,7 +57,7 @@ fn decode_digit(digit: u8) -> Option<u8>
     }
 }
 
-// A byte that prints as its two digits.
+// A byte that prints as its two digits. A type of its own, so that the loop over the bytes is proved by what each prints.
 #[derive(Clone, Copy)]
 struct HexByte(u8);
 

@@ -3,10 +3,8 @@
 
 mod error;
 mod hex;
-mod table;
 mod words;
 
 pub use error::ParseError;
 pub use hex::{Hex, decode_hex, push_hex};
-pub use table::look_up;
 pub use words::{Words, is_silent, parse_number, split_word};

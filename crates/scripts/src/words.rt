@@ -1,9 +1,10 @@
 // The words of a line are set apart by single spaces.
 ghost use Rattle.std.specs.Prelude.{◌≡◌, ◌+◌, ◌<◌, ◌≤◌, length, take, drop, Some, None, IfSome, MatchOption};
-ghost use Rattle.std.specs.Option.{option_map, option_and_then};
+ghost use Rattle.std.specs.Option.{ok_or, option_map, option_and_then};
+ghost use Rattle.std.specs.Result.{result_map_both};
 ghost use Rattle.scripts.specs.Words.{first_word, behind_word, alone, decimal_value, number_of};
 ghost use Rattle.scripts.specs.Lines.{silent};
-ghost use Rattle.scripts.specs.Reading.{Reads};
+ghost use Rattle.scripts.specs.declared.error.ParseError.TheVariants.{NotUnderstood};
 
 use crate::error::ParseError;
 use std::marker::Model;
@@ -38,8 +39,8 @@ impl<'a> Words<'a> {
     }
 
     // Takes the next word.
-    pub fn next(&mut self) -> Result<&'a [u8], ParseError>
-        ensures word { Reads (λ w. w.now) (option_map first_word self.old) result }
+    pub fn next_word(&mut self) -> Result<&'a [u8], ParseError>
+        ensures word { result_map_both (λ w. w.now) (λ e. e) result ≡ ok_or (option_map first_word self.old) NotUnderstood }
         ensures rest { self.new ≡ option_and_then behind_word self.old }
     {
         let left = self.left.ok_or(ParseError::NotUnderstood)?;
@@ -49,19 +50,19 @@ impl<'a> Words<'a> {
     }
 
     // All that is left, as one last word.
-    pub fn last(self) -> Result<&'a [u8], ParseError>
-        ensures { Reads (λ w. w.now) self.entry result }
+    pub fn last_word(self) -> Result<&'a [u8], ParseError>
+        ensures { result_map_both (λ w. w.now) (λ e. e) result ≡ ok_or self.entry NotUnderstood }
     {
         self.left.ok_or(ParseError::NotUnderstood)
     }
 
-    // The value, if no word is left.
-    pub fn end<T: Drop>(self, value: T) -> Result<T, ParseError>
-        ensures { Reads (λ v. v) (alone value self.entry) result }
+    // No word is left.
+    pub fn end(self) -> Result<(), ParseError>
+        ensures { result ≡ ok_or (alone tt self.entry) NotUnderstood }
     {
         match self.left {
             Some(_) => Err(ParseError::NotUnderstood),
-            None => Ok(value),
+            None => Ok(()),
         }
     }
 }
@@ -85,7 +86,7 @@ fn first_space(line: &[u8]) -> Option<usize>
     line.iter().position(|byte| *byte == b' ')
 }
 
-// The number of a word of digits, of which there is at least one, if it is at most so much.
+// The number of a word of digits, of which there is at least one, if it is at most so much. No `parse`, which would take a plus sign.
 #[tactic(auto, using(crate::proofs::WordLemmas::number_steps))]
 pub fn parse_number(word: &[u8], most: u32) -> Option<u32>
     ensures value { result ≡ number_of word.now most }
@@ -105,6 +106,7 @@ pub fn parse_number(word: &[u8], most: u32) -> Option<u32>
     Some(number as u32)
 }
 
+// No `char::to_digit`: it asks for a character, and answers a `u32`. `decode_digit` has the letters too, by a definition of its own.
 fn decimal_digit(byte: u8) -> Option<u8>
     ensures value { result ≡ decimal_value byte }
     ensures bound { IfSome result (λ d. d < 10) }

@@ -1,7 +1,8 @@
 -- One piece more of those that a digest takes.
-use Rattle.std.proofs.Common.{◌≡◌, ℕ, zero, suc, ◌+◌, List, [], ◌∷◌, ◌++◌, map, replicate, sym, refl, ap, ◌∙◌, append_assoc, add-one}
+use Rattle.std.proofs.Common.{◌≡◌, ℕ, zero, suc, ◌+◌, List, [], ◌++◌, map, replicate, sym, refl, ap, ◌∙◌, append_assoc, add-one}
 use Rattle.std.specs.List.{flat_map}
 use Rattle.std.proofs.lemmas.List.{append-nil}
+use Rattle.std.proofs.lemmas.List.Folds.{flat_map-map}
 use Rattle.scripts.specs.Words.{Bytes}
 use Rattle.vectors.specs.Pieced.{repeated}
 
@@ -19,5 +20,4 @@ repeated_none piece = refl
 
 -- joining what pieces hold, or what they hold in turn
 pub joined_map : {X A : Type 0} (f : X → List A) (xs : List X) → flat_map f xs ≡ flat_map (λ p. p) (map f xs)
-joined_map f [] = refl
-joined_map f (x ∷ xs) = ap (λ t. f x ++ t) (joined_map f xs)
+joined_map f xs = sym (flat_map-map (λ p. p) f xs)

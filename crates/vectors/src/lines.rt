@@ -18,7 +18,7 @@ pub fn answer_lines(alloc: Global, input: &[u8]) -> Result<String, AllocError>
     Ok(out)
 }
 
-// Appends what one line prints. Blank lines and comments print nothing.
+// Appends what one line prints. Blank lines and comments print nothing; that a line is not understood is an answer, and want of memory goes on.
 #[tactic(auto, unfolding(crate::specs::Prints::line_text))]
 fn answer_line(alloc: Global, line: &[u8], out: &mut String) -> Result<(), AllocError>
     ensures { OnOk result (string_bytes out.new ≡ string_bytes out.old ++ line_text line.now) }

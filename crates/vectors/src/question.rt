@@ -29,19 +29,19 @@ impl Question {
     {
         match self {
             Question::Digest => {
-                let pieces = decode_words(alloc, words.last()?)?;
+                let pieces = decode_words(alloc, words.last_word()?)?;
                 Ok(digest_of::<D, _>(&pieces))
             }
             Question::Hmac => {
-                let key = decode_key(alloc, words.next()?)?;
-                let text = decode_hex(alloc, words.last()?)?;
+                let key = decode_key(alloc, words.next_word()?)?;
+                let text = decode_hex(alloc, words.last_word()?)?;
                 Ok(hmac::<D>(&key, &text))
             }
             Question::Repeat => {
-                let count = parse_number(words.next()?, MAX_COUNT).ok_or(
+                let count = parse_number(words.next_word()?, MAX_COUNT).ok_or(
                     ParseError::NotUnderstood,
                 )?;
-                let piece = decode_hex(alloc, words.last()?)?;
+                let piece = decode_hex(alloc, words.last_word()?)?;
                 Ok(digest_repeated::<D>(count, &piece))
             }
         }

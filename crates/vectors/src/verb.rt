@@ -5,7 +5,7 @@ ghost use Rattle.vectors.specs.Verbs.{verb_of, verb_answer, line_answer};
 
 use crate::question::Question;
 use blake2s::Blake2s;
-use scripts::{ParseError, Words, look_up};
+use scripts::{ParseError, Words};
 use sha256::Sha256;
 use std::alloc::Global;
 
@@ -24,24 +24,25 @@ pub fn line_digest(alloc: Global, line: &[u8]) -> Result<[u8; 32], ParseError>
     ensures { Reads (λ d. d) (line_answer line.now) result }
 {
     let mut words = Words::new(line);
-    let word = words.next()?;
+    let word = words.next_word()?;
     let verb = Verb::named(word).ok_or(ParseError::NotUnderstood)?;
     verb.answer(alloc, words)
 }
 
 impl Verb {
+    #[tactic(auto, using(scripts::proofs::TableLemmas::row_read))]
     fn named(word: &[u8]) -> Option<Verb>
         ensures { result ≡ verb_of word.now }
     {
-        let table = [
-            ("sha256", Verb(Algorithm::Sha256, Question::Digest)),
-            ("hmac-sha256", Verb(Algorithm::Sha256, Question::Hmac)),
-            ("repeat-sha256", Verb(Algorithm::Sha256, Question::Repeat)),
-            ("blake2s", Verb(Algorithm::Blake2s, Question::Digest)),
-            ("hmac-blake2s", Verb(Algorithm::Blake2s, Question::Hmac)),
-            ("repeat-blake2s", Verb(Algorithm::Blake2s, Question::Repeat)),
-        ];
-        look_up(&table, word)
+        match word {
+            b"sha256" => Some(Verb(Algorithm::Sha256, Question::Digest)),
+            b"hmac-sha256" => Some(Verb(Algorithm::Sha256, Question::Hmac)),
+            b"repeat-sha256" => Some(Verb(Algorithm::Sha256, Question::Repeat)),
+            b"blake2s" => Some(Verb(Algorithm::Blake2s, Question::Digest)),
+            b"hmac-blake2s" => Some(Verb(Algorithm::Blake2s, Question::Hmac)),
+            b"repeat-blake2s" => Some(Verb(Algorithm::Blake2s, Question::Repeat)),
+            _ => None,
+        }
     }
 
     // The answer to what stands behind the first word.
