@@ -1,5 +1,5 @@
 -- What a table has at a word of which each byte was read.
-use Rattle.std.proofs.Common.{◌≡◌, ◌≢◌, true, false, cond, length, Some, Option, sym, refl, ap}
+use Rattle.std.proofs.Common.{◌≡◌, ◌≢◌, true, false, cond, length, get_or, Some, Option, sym, refl, ap}
 use Rattle.std.specs.Str.{bytes_eq}
 use Rattle.std.proofs.lemmas.Bool.{cond-true}
 use Rattle.std.proofs.lemmas.Slice.Eq.{bytes_eq-Decides, HasBytesAt, text_from_reads}
@@ -17,4 +17,12 @@ row_later word name here rest answer l e =
       | false ↦ λ f. e
     ]) refl
 
-pub ruleset row_read = (row_here, row_later)
+-- this row's name begins with another byte
+pub row_otherwise : {A : Type 0} (word name : Bytes) (here rest answer : Option A) → get_or word 0 0 ≢ get_or name 0 0 → answer ≡ rest → answer ≡ cond (bytes_eq word name) here rest
+row_otherwise word name here rest answer b e =
+    (elim (bytes_eq word name) as (λ v. bytes_eq word name ≡ v → answer ≡ cond v here rest) [
+      | true ↦ λ t. absurd (b (ap (λ w. get_or w 0 0) ((bytes_eq-Decides word name).0 t)))
+      | false ↦ λ f. e
+    ]) refl
+
+pub ruleset row_read = (row_here, row_later, row_otherwise)

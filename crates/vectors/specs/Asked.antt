@@ -6,8 +6,8 @@ use Rattle.digests.specs.Hmac.{hmac_of}
 use Rattle.scripts.specs.Words.{Bytes, first_word, behind_word, number_of}
 use Rattle.scripts.specs.Hex.{both, bytes_in}
 use Rattle.vectors.specs.Pieced.{words_pieces, repeated, key_of}
-use Rattle.vectors.specs.declared.question.Question.{Question}
-use Rattle.vectors.specs.declared.question.Question.TheVariants.{Digest, Hmac, Repeat}
+use Rattle.vectors.specs.declared.digest.Question.{Question}
+use Rattle.vectors.specs.declared.digest.Question.TheVariants.{Digest, Hmac, Repeat}
 
 -- the digest of all pieces together
 abbrev pub words_answer : (Bytes → Bytes) → Option Bytes → Option Bytes

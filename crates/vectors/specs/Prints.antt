@@ -2,13 +2,13 @@
 use Rattle.std.specs.Prelude.{cond, [], ◌∷◌, ◌++◌, Some, None, codes, Option}
 use Rattle.std.specs.List.{flat_map}
 use Rattle.scripts.specs.Words.{Bytes}
-use Rattle.scripts.specs.Hex.{hex_text}
 use Rattle.scripts.specs.Lines.{silent, parts_behind}
 use Rattle.vectors.specs.Verbs.{line_answer}
 
+-- a line's answer
 abbrev pub shown : Option Bytes → Bytes
 shown None = codes "not understood"
-shown (Some digest) = hex_text digest
+shown (Some text) = text
 
 unfoldable pub line_text : Bytes → Bytes
 line_text line = cond (silent line) [] (shown (line_answer line) ++ 10 ∷ [])

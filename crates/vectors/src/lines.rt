@@ -2,8 +2,8 @@
 ghost use Rattle.std.specs.Prelude.{◌≡◌, ◌++◌, IfOk, string_bytes, OnOk};
 ghost use Rattle.vectors.specs.Prints.{line_text, input_text};
 
-use crate::verb::line_digest;
-use scripts::{ParseError, is_silent, push_hex};
+use crate::verb::line_answer;
+use scripts::{ParseError, is_silent};
 use std::alloc::{AllocError, Global};
 use std::fmt::Write;
 
@@ -26,8 +26,8 @@ fn answer_line(alloc: Global, line: &[u8], out: &mut String) -> Result<(), Alloc
     if is_silent(line) {
         return Ok(());
     }
-    match line_digest(alloc, line) {
-        Ok(digest) => push_hex(out, &digest)?,
+    match line_answer(alloc, line) {
+        Ok(answer) => out.push_str(answer.as_str())?,
         Err(ParseError::OutOfMemory(error)) => return Err(error),
         Err(error) => write!(out, "{error}")?,
     }

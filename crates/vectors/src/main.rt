@@ -1,9 +1,10 @@
-// Prints what digests and HMACs answer to the lines of standard input, for test vectors.
+// Prints what digests, HMACs and families answer to the lines of standard input, for test vectors.
 #![tactic(auto)]
 
+mod digest;
+mod family;
 mod lines;
 mod pieces;
-mod question;
 mod verb;
 
 use lines::answer_lines;

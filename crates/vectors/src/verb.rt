@@ -1,9 +1,10 @@
 // The first words of lines, and what each asks.
-ghost use Rattle.std.specs.Prelude.{◌≡◌};
+ghost use Rattle.std.specs.Prelude.{◌≡◌, string_bytes};
 ghost use Rattle.scripts.specs.Reading.{Reads};
 ghost use Rattle.vectors.specs.Verbs.{verb_of, verb_answer, line_answer};
 
-use crate::question::Question;
+use crate::digest::Question;
+use crate::family::{answer_choice, answer_family, answer_rows};
 use blake2s::Blake2s;
 use scripts::{ParseError, Words};
 use sha256::Sha256;
@@ -16,12 +17,17 @@ enum Algorithm {
 }
 
 #[derive(Clone, Copy)]
-struct Verb(Algorithm, Question);
+enum Verb {
+    Digest(Algorithm, Question),
+    Family,
+    Rows,
+    Choose,
+}
 
-// What a line asks, if it is understood.
+// The text that a line answers, if it is understood.
 #[tactic(auto, unfolding(crate::specs::Verbs::line_answer))]
-pub fn line_digest(alloc: Global, line: &[u8]) -> Result<[u8; 32], ParseError>
-    ensures { Reads (λ d. d) (line_answer line.now) result }
+pub fn line_answer(alloc: Global, line: &[u8]) -> Result<String, ParseError>
+    ensures { Reads string_bytes (line_answer line.now) result }
 {
     let mut words = Words::new(line);
     let word = words.next_word()?;
@@ -35,23 +41,29 @@ impl Verb {
         ensures { result ≡ verb_of word.now }
     {
         match word {
-            b"sha256" => Some(Verb(Algorithm::Sha256, Question::Digest)),
-            b"hmac-sha256" => Some(Verb(Algorithm::Sha256, Question::Hmac)),
-            b"repeat-sha256" => Some(Verb(Algorithm::Sha256, Question::Repeat)),
-            b"blake2s" => Some(Verb(Algorithm::Blake2s, Question::Digest)),
-            b"hmac-blake2s" => Some(Verb(Algorithm::Blake2s, Question::Hmac)),
-            b"repeat-blake2s" => Some(Verb(Algorithm::Blake2s, Question::Repeat)),
+            b"sha256" => Some(Verb::Digest(Algorithm::Sha256, Question::Digest)),
+            b"hmac-sha256" => Some(Verb::Digest(Algorithm::Sha256, Question::Hmac)),
+            b"repeat-sha256" => Some(Verb::Digest(Algorithm::Sha256, Question::Repeat)),
+            b"blake2s" => Some(Verb::Digest(Algorithm::Blake2s, Question::Digest)),
+            b"hmac-blake2s" => Some(Verb::Digest(Algorithm::Blake2s, Question::Hmac)),
+            b"repeat-blake2s" => Some(Verb::Digest(Algorithm::Blake2s, Question::Repeat)),
+            b"family" => Some(Verb::Family),
+            b"rows" => Some(Verb::Rows),
+            b"choose" => Some(Verb::Choose),
             _ => None,
         }
     }
 
     // The answer to what stands behind the first word.
-    fn answer(self, alloc: Global, words: Words) -> Result<[u8; 32], ParseError>
-        ensures { Reads (λ d. d) (verb_answer self words.entry) result }
+    fn answer(self, alloc: Global, words: Words) -> Result<String, ParseError>
+        ensures { Reads string_bytes (verb_answer self words.entry) result }
     {
-        match self.0 {
-            Algorithm::Sha256 => self.1.answer::<Sha256>(alloc, words),
-            Algorithm::Blake2s => self.1.answer::<Blake2s>(alloc, words),
+        match self {
+            Verb::Digest(Algorithm::Sha256, question) => question.answer::<Sha256>(alloc, words),
+            Verb::Digest(Algorithm::Blake2s, question) => question.answer::<Blake2s>(alloc, words),
+            Verb::Family => answer_family(alloc, words),
+            Verb::Rows => answer_rows(alloc, words),
+            Verb::Choose => answer_choice(alloc, words),
         }
     }
 }

@@ -1,11 +1,13 @@
 // What a line asks of a digest, whichever it is.
-ghost use Rattle.std.specs.Prelude.{◌≡◌};
+ghost use Rattle.std.specs.Prelude.{◌≡◌, string_bytes};
+ghost use Rattle.std.specs.Option.{option_map};
+ghost use Rattle.scripts.specs.Hex.{hex_text};
 ghost use Rattle.scripts.specs.Reading.{Reads};
 ghost use Rattle.vectors.specs.Asked.{question_answer};
 
 use crate::pieces::{decode_key, decode_words, digest_repeated};
 use digests::{Digest, digest_of, hmac};
-use scripts::{ParseError, Words, decode_hex, parse_number};
+use scripts::{ParseError, Words, decode_hex, parse_number, push_hex};
 use std::alloc::Global;
 
 // How often a piece can be repeated.
@@ -22,9 +24,19 @@ pub enum Question {
 }
 
 impl Question {
-    // The answer to words.
+    // The answer to words, in hex.
+    pub fn answer<D: Digest>(self, alloc: Global, words: Words) -> Result<String, ParseError>
+        ensures { Reads string_bytes (option_map hex_text (question_answer self D.digest D.BLOCK words.entry)) result }
+    {
+        let digest = self.digest::<D>(alloc, words)?;
+        let mut answer = String::new(alloc);
+        push_hex(&mut answer, &digest)?;
+        Ok(answer)
+    }
+
+    // The digest that words ask for.
     #[tactic(auto, using(crate::proofs::Taken::joined_map))]
-    pub fn answer<D: Digest>(self, alloc: Global, mut words: Words) -> Result<[u8; 32], ParseError>
+    fn digest<D: Digest>(self, alloc: Global, mut words: Words) -> Result<[u8; 32], ParseError>
         ensures { Reads (λ d. d) (question_answer self D.digest D.BLOCK words.entry) result }
     {
         match self {
