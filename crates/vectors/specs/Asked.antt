@@ -5,7 +5,7 @@ use Rattle.std.specs.Option.{option_map}
 use Rattle.digests.specs.Hmac.{hmac_of}
 use Rattle.scripts.specs.Words.{Bytes, first_word, behind_word, number_of}
 use Rattle.scripts.specs.Hex.{both, bytes_in}
-use Rattle.vectors.specs.Pieced.{words_pieces, repeated, key_of}
+use Rattle.vectors.specs.Pieced.{words_pieces, repeated, array_of}
 use Rattle.vectors.specs.declared.digest.Question.{Question}
 use Rattle.vectors.specs.declared.digest.Question.TheVariants.{Digest, Hmac, Repeat}
 
@@ -14,10 +14,10 @@ abbrev pub words_answer : (Bytes → Bytes) → Option Bytes → Option Bytes
 words_answer digest None = None
 words_answer digest (Some words) = option_map (λ ps. digest (flat_map (λ p. p) ps)) (words_pieces words)
 
--- a key and a text
+-- a key of 32 bytes and a text
 abbrev pub hmac_answer : (Bytes → Bytes) → ℕ → Option Bytes → Option Bytes
 hmac_answer digest block None = None
-hmac_answer digest block (Some words) = both (hmac_of digest block) (key_of (first_word words)) (bytes_in (behind_word words))
+hmac_answer digest block (Some words) = both (hmac_of digest block) (array_of 32 (first_word words)) (bytes_in (behind_word words))
 
 -- a count, of at most a million, and a piece
 abbrev pub repeat_answer : (Bytes → Bytes) → Option Bytes → Option Bytes

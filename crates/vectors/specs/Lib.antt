@@ -1,5 +1,7 @@
 pub mod Pieced
+pub mod Algorithms
 pub mod Asked
 pub mod Families
+pub mod Tags
 pub mod Verbs
 pub mod Prints

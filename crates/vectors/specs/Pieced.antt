@@ -26,6 +26,6 @@ abbrev pub of_length : ℕ → Option Bytes → Option Bytes
 of_length n None = None
 of_length n (Some bs) = cond (length bs == n) (Some bs) None
 
--- a key of 32 bytes
-abbrev pub key_of : Bytes → Option Bytes
-key_of word = of_length 32 (hex_bytes word)
+-- so many bytes
+abbrev pub array_of : ℕ → Bytes → Option Bytes
+array_of n word = of_length n (hex_bytes word)

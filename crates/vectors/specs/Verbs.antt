@@ -3,16 +3,14 @@ use Rattle.std.specs.Prelude.{[], ◌∷◌, Some, None, codes, Option}
 use Rattle.std.specs.Option.{option_map}
 use Rattle.scripts.specs.Words.{Bytes, first_word, behind_word, entry_at}
 use Rattle.scripts.specs.Hex.{hex_text}
-use Rattle.blake2s.specs.Blake2s.{blake2s}
-use Rattle.sha256.specs.Sha256.{sha256_of}
+use Rattle.vectors.specs.Algorithms.{digest_by}
 use Rattle.vectors.specs.Asked.{question_answer}
 use Rattle.vectors.specs.Families.{family_answer, rows_answer, choice_answer}
-use Rattle.vectors.specs.declared.digest.Question.{Question}
+use Rattle.vectors.specs.Tags.{tag_answer, inspect_answer}
 use Rattle.vectors.specs.declared.digest.Question.TheVariants as questions
-use Rattle.vectors.specs.declared.verb.Algorithm.{Algorithm}
-use Rattle.vectors.specs.declared.verb.Algorithm.TheVariants.{Sha256, Blake2s}
+use Rattle.vectors.specs.declared.algorithm.Algorithm.TheVariants.{Sha256, Blake2s}
 use Rattle.vectors.specs.declared.verb.Verb.{Verb}
-use Rattle.vectors.specs.declared.verb.Verb.TheVariants.{Digest, Family, Rows, Choose}
+use Rattle.vectors.specs.declared.verb.Verb.TheVariants.{Digest, Family, Rows, Choose, Tag, Inspect}
 
 abbrev pub verb_of : Bytes → Option Verb
 verb_of =
@@ -23,19 +21,17 @@ verb_of =
     ∷ ((codes "blake2s", Digest Blake2s questions.Digest)
     ∷ ((codes "hmac-blake2s", Digest Blake2s questions.Hmac)
     ∷ ((codes "repeat-blake2s", Digest Blake2s questions.Repeat)
-    ∷ ((codes "family", Family) ∷ ((codes "rows", Rows) ∷ ((codes "choose", Choose) ∷ [])))))))))
-
--- the answer of a digest, which works on 64 bytes at a time
-abbrev pub digest_answer : Algorithm → Question → Option Bytes → Option Bytes
-digest_answer Sha256 question rest = question_answer question sha256_of 64 rest
-digest_answer Blake2s question rest = question_answer question blake2s 64 rest
+    ∷ ((codes "family", Family) ∷ ((codes "rows", Rows) ∷ ((codes "choose", Choose)
+    ∷ ((codes "tag", Tag) ∷ ((codes "inspect", Inspect) ∷ [])))))))))))
 
 -- the text that a first word answers, with what stands behind the space after it
 abbrev pub verb_answer : Verb → Option Bytes → Option Bytes
-verb_answer (Digest algorithm question) rest = option_map hex_text (digest_answer algorithm question rest)
+verb_answer (Digest algorithm question) rest = option_map hex_text (question_answer question (digest_by algorithm) 64 rest)
 verb_answer Family rest = family_answer rest
 verb_answer Rows rest = rows_answer rest
 verb_answer Choose rest = choice_answer rest
+verb_answer Tag rest = tag_answer rest
+verb_answer Inspect rest = inspect_answer rest
 
 -- a first word that is in no table has no answer
 abbrev pub answer_if : Option Verb → Option Bytes → Option Bytes

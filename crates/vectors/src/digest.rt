@@ -5,7 +5,7 @@ ghost use Rattle.scripts.specs.Hex.{hex_text};
 ghost use Rattle.scripts.specs.Reading.{Reads};
 ghost use Rattle.vectors.specs.Asked.{question_answer};
 
-use crate::pieces::{decode_key, decode_words, digest_repeated};
+use crate::pieces::{decode_array, decode_words, digest_repeated};
 use digests::{Digest, digest_of, hmac};
 use scripts::{ParseError, Words, decode_hex, parse_number, push_hex};
 use std::alloc::Global;
@@ -45,7 +45,7 @@ impl Question {
                 Ok(digest_of::<D, _>(&pieces))
             }
             Question::Hmac => {
-                let key = decode_key(alloc, words.next_word()?)?;
+                let key = decode_array::<32>(alloc, words.next_word()?)?;
                 let text = decode_hex(alloc, words.last_word()?)?;
                 Ok(hmac::<D>(&key, &text))
             }

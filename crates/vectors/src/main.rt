@@ -1,10 +1,12 @@
-// Prints what digests, HMACs and families answer to the lines of standard input, for test vectors.
+// Prints what digests, HMACs, families and tag keys answer to the lines of standard input, for test vectors.
 #![tactic(auto)]
 
+mod algorithm;
 mod digest;
 mod family;
 mod lines;
 mod pieces;
+mod tag;
 mod verb;
 
 use lines::answer_lines;

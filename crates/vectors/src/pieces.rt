@@ -1,7 +1,7 @@
 // Bytes in pieces, from hex words to a digest.
 ghost use Rattle.std.specs.Prelude.{◌≡◌};
 ghost use Rattle.scripts.specs.Reading.{Reads};
-ghost use Rattle.vectors.specs.Pieced.{key_of, pieces_in, words_pieces, repeated};
+ghost use Rattle.vectors.specs.Pieced.{array_of, pieces_in, words_pieces, repeated};
 
 use digests::Digest;
 use scripts::{ParseError, decode_hex};
@@ -30,10 +30,10 @@ pub fn decode_words(alloc: Global, words: &[u8]) -> Result<Vec<Vec<u8>>, ParseEr
     Ok(pieces)
 }
 
-// The key that a hex word stands for, if it has 32 bytes.
-pub fn decode_key(alloc: Global, word: &[u8]) -> Result<[u8; 32], ParseError>
-    ensures { Reads (λ k. k) (key_of word.now) result }
+// The bytes that a hex word stands for, if there are so many.
+pub fn decode_array<const N: usize>(alloc: Global, word: &[u8]) -> Result<[u8; N], ParseError>
+    ensures { Reads (λ bytes. bytes) (array_of N word.now) result }
 {
     let bytes = decode_hex(alloc, word)?;
-    <[u8; 32]>::try_from(bytes.as_slice()).map_err(|_| ParseError::NotUnderstood)
+    <[u8; N]>::try_from(bytes.as_slice()).map_err(|_| ParseError::NotUnderstood)
 }

@@ -3,25 +3,28 @@ ghost use Rattle.std.specs.Prelude.{◌≡◌, string_bytes};
 ghost use Rattle.scripts.specs.Reading.{Reads};
 ghost use Rattle.vectors.specs.Verbs.{verb_of, verb_answer, line_answer};
 
+use crate::algorithm::Algorithm;
 use crate::digest::Question;
 use crate::family::{answer_choice, answer_family, answer_rows};
+use crate::tag::{answer_inspect, answer_tag};
 use blake2s::Blake2s;
 use scripts::{ParseError, Words};
 use sha256::Sha256;
 use std::alloc::Global;
 
 #[derive(Clone, Copy)]
-enum Algorithm {
-    Sha256,
-    Blake2s,
-}
-
-#[derive(Clone, Copy)]
 enum Verb {
     Digest(Algorithm, Question),
+    // KIND NUMBERS
     Family,
+    // BLOCK KIND NUMBERS
     Rows,
+    // COUNT STRENGTH
     Choose,
+    // DIGEST KEY NAME NEXT TEXT
+    Tag,
+    // DIGEST KEY NUMBER TEXT SIGNATURE
+    Inspect,
 }
 
 // The text that a line answers, if it is understood.
@@ -50,6 +53,8 @@ impl Verb {
             b"family" => Some(Verb::Family),
             b"rows" => Some(Verb::Rows),
             b"choose" => Some(Verb::Choose),
+            b"tag" => Some(Verb::Tag),
+            b"inspect" => Some(Verb::Inspect),
             _ => None,
         }
     }
@@ -64,6 +69,8 @@ impl Verb {
             Verb::Family => answer_family(alloc, words),
             Verb::Rows => answer_rows(alloc, words),
             Verb::Choose => answer_choice(alloc, words),
+            Verb::Tag => answer_tag(alloc, words),
+            Verb::Inspect => answer_inspect(alloc, words),
         }
     }
 }
