@@ -2,7 +2,7 @@
 
     table.py FOLDER [PASSES]
 
-Every program does the same work, and the last digest shows it: where one
+Every program does the same work, and what it prints last shows it: where one
 differs, the comparison stops.
 """
 
@@ -31,10 +31,15 @@ SIZES = [("55 B", 55, 200_000), ("64 B", 64, 200_000), ("1 KiB", 1024, 16_384),
          ("64 KiB", 65_536, 256), ("16 MiB", 16_777_216, 1)]
 ROUNDS = 5
 
+# (name, our way, the rivals with theirs)
+ROWS = [("each row's blocks by `next_block`", "next", [("C table", "next"), ("plain C", "plain")]),
+        ("each row and block by `holds`", "holds", [("C table", "holds"), ("plain C", "plain")])]
+ROW_TURNS = 100
 
-def run(command, environment, digest, size, turns):
-    """The best nanoseconds of a round, and the last digest."""
-    out = subprocess.run(command + [digest, str(size), str(turns), str(ROUNDS)],
+
+def run(command, environment, *words):
+    """The best nanoseconds of a round, and what stands in the last line."""
+    out = subprocess.run([*command, *map(str, words), str(ROUNDS)],
                          env={**os.environ, **environment}, check=True,
                          capture_output=True, text=True).stdout.split()
     return min(map(int, out[:-1])), out[-1]
@@ -53,6 +58,31 @@ def compare(digest, size, turns):
     return {name: size * turns * 1000 / nanos for name, nanos in best.items()}
 
 
+def compare_rows(way, rivals):
+    """Milliseconds that each takes to visit all rows, the best of all passes."""
+    programs = [("ours", f"{FOLDER}/crates/rows/out/rows", way),
+                *((name, f"{FOLDER}/rows-c", theirs) for name, theirs in rivals)]
+    best, answers = {}, set()
+    for _ in range(PASSES):
+        for name, program, word in programs:
+            nanos, answer = run([program], {}, word, ROW_TURNS)
+            best[name] = min(nanos, best.get(name, nanos))
+            answers.add(answer)
+            if len(answers) > 1:
+                sys.exit(f"{name} answers otherwise: rows, {word}")
+    return {name: nanos / ROW_TURNS / 1e6 for name, nanos in best.items()}
+
+
+def print_rows():
+    names = [name for name, _ in ROWS[0][2]]
+    print("| rows, q = 16, k = 3, n = 512 | ours, ms | " + " | ".join(f"ours / {name}" for name in names) + " |")
+    print("|---|" + "---|" * (len(names) + 1))
+    for label, way, rivals in ROWS:
+        taken = compare_rows(way, rivals)
+        ratios = (f"{taken[name] / taken['ours']:.2f}" for name in names)
+        print(f"| {label} | {taken['ours']:.3f} | " + " | ".join(ratios) + " |", flush=True)
+
+
 def main():
     names = [name for name, _, _ in RIVALS[1:]]
     for digest in ("sha256", "blake2s"):
@@ -65,6 +95,7 @@ def main():
             ratios = (f"{speed['ours'] / speed[name]:.2f}" for name in names)
             print(f"| {label} | {speed['ours']:.0f} | " + " | ".join(ratios) + " |", flush=True)
         print()
+    print_rows()
 
 
 main()
