@@ -2,5 +2,5 @@ pub mod Apart
 pub mod PolynomialRows
 pub mod Ranks
 pub mod Fits
-pub mod Cases
 pub mod Products
+mod RowLemmas

@@ -10,7 +10,6 @@ pub mod Degrees
 pub mod Making
 pub mod Choice
 pub mod Any
-pub mod Cases
 -- Proofs of laws: an impl cites them, and it can cite nothing of proofs/. No contract rests on what they say.
 pub mod Counting
 pub mod Every

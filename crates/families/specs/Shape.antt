@@ -1,10 +1,10 @@
 -- What a family answers, and its law. Assumes nothing.
-use Rattle.std.specs.Prelude.{◌≡◌, ℕ, ◌+◌, ◌-◌, ◌≤◌, Bool, true, Option}
+use Rattle.std.specs.Prelude.{◌≡◌, ℕ, ◌+◌, ◌-◌, ◌≤◌, Bool, true, List, map, Option}
 use Rattle.std.specs.Option.{option_map}
 use Rattle.answers.specs.declared.BlockNumber.{BlockNumber}
 use Rattle.answers.specs.Numbers.{block_number}
 use Rattle.families.specs.Family.{CoverFree}
-use Rattle.families.specs.Numbers.{lowest}
+use Rattle.families.specs.Numbers.{lowest, numbers, keep_where}
 
 -- everything that a family answers
 pub record Shape : Type 0 where
@@ -33,3 +33,11 @@ pub record Lawful (f : Shape) : Type 0 where
 -- the lowest block above another that a row holds
 abbrev pub next_held : Shape → ℕ → ℕ → Option BlockNumber
 next_held f row after = option_map block_number (lowest (f.holds row) (after + 1) (f.blocks - after))
+
+-- the blocks above another that a row holds, rising
+unfoldable pub held_after : Shape → ℕ → ℕ → List ℕ
+held_after f row after = keep_where (f.holds row) (numbers (after + 1) (f.blocks - after))
+
+-- all blocks that a row holds
+abbrev pub row_list : Shape → ℕ → List ℕ
+row_list f row = held_after f row 0

@@ -7,7 +7,6 @@ ghost use Rattle.families.specs.Polynomial.{RootCounting, CoefficientsDiffer, Po
 ghost use Rattle.families.specs.Single.{SingleCoverFree};
 ghost use Rattle.families.specs.Halves.{LimitsCounted, HalvesCoverFree};
 ghost use Rattle.families.specs.Plane.{PlaneCoverFree};
-ghost use Rattle.families.specs.Cases.{WorkedCases, FurtherCases};
 
 pub mod any;
 mod blocks;
@@ -17,6 +16,7 @@ pub mod fields;
 pub mod halves;
 pub mod plane;
 pub mod polynomial;
+pub mod row;
 pub mod single;
 
 pub fn bounded_inside()
@@ -67,13 +67,4 @@ pub fn prime_fields()
 #[tactic(auto, using(crate::specs::Binary::binary_fields))]
 pub fn binary_fields()
     ensures { BinaryFields }
-{}
-
-#[tactic(auto, using(crate::proofs::Cases::further_cases))]
-pub fn further_cases()
-    ensures { FurtherCases }
-{}
-
-pub fn worked_cases()
-    ensures { WorkedCases }
 {}

@@ -39,7 +39,7 @@ key_after (Ok a) key = drawn_once key
 key_after (Err e) key = key
 
 -- the buffer after a call that writes: the bytes stand in front of what stood behind them, or all is as it was
-abbrev pub buffer_after : {A : Type 0} → Result A Refusal → Bytes → Bytes → Bytes
+abbrev pub buffer_after : {A E : Type 0} → Result A E → Bytes → Bytes → Bytes
 buffer_after (Ok a) bytes before = bytes ++ drop (length bytes) before
 buffer_after (Err e) bytes before = before
 

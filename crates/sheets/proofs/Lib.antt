@@ -1,5 +1,5 @@
 mod Pieces
 mod Tells
 mod Turned
-mod Known
+pub mod Known
 mod Lines

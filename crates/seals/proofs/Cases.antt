@@ -1,0 +1,48 @@
+-- The worked cases, by computing.
+use Rattle.std.proofs.Common.{◌≡◌, [], sym, refl, ap, ◌∙◌, arith}
+use Rattle.digests.specs.Strings.{Bytes, same}
+use Rattle.families.specs.Numbers.{numbers, keep_where, any_of}
+use Rattle.families.specs.Choice.{first_fit}
+use Rattle.families.specs.Lawful.{plane_lawful}
+use Rattle.seals.specs.Images.{framed_blocks, row_image, whole_image}
+use Rattle.seals.specs.Part.{word, row_digest, whole_digest, digests_of_rows, seal_head, text_to_sign, seal_part}
+use Rattle.seals.specs.Calls.{same_family, same_scheme, same_count, passes, agrees, suspect, suspects, check_before, check_answer}
+use Rattle.seals.specs.Law.{answer, after, after_all, events, rewritten_to, standing, is_changed, changed, compares, image_of}
+use Rattle.seals.specs.Cases.{rows_with, as_number, small_digest, plane, yes, one_byte_blocks, plane_sheet, plane_part, spoil, checked, failing, cases, WorkedCases, NotEmpty}
+use Rattle.seals.proofs.Established.{Written}
+use Rattle.seals.proofs.Answers.{same_true, same_refl}
+use Rattle.seals.proofs.Promises.{sealed_promises}
+
+pub worked_cases : WorkedCases
+unfolding framed_blocks row_image whole_image numbers keep_where any_of row_digest whole_digest word same_family same_scheme same_count check_before passes agrees suspect suspects check_answer answer after after_all digests_of_rows seal_head text_to_sign seal_part first_fit rows_with as_number small_digest plane yes one_byte_blocks plane_sheet plane_part spoil checked failing cases
+worked_cases =
+    (refl, (refl, (refl, (refl, (refl, (refl, (refl, (refl, (refl, (refl, (refl, (refl, (refl, (refl, (refl, (refl, (refl, (refl, (refl, (refl, (refl, tt)))))))))))))))))))))
+
+-- two strings do not clash if their digests are the same exactly if they are
+no_clash_by : (a b : Bytes) → same (small_digest a) (small_digest b) ≡ same a b → small_digest a ≡ small_digest b → a ≡ b
+no_clash_by a b e d = same_true a b (sym e ∙ ap (λ (z : Bytes). same z (small_digest b)) d ∙ same_refl (small_digest b))
+
+plane_written : Written plane yes 70000 plane_sheet []
+unfolding plane yes plane_sheet one_byte_blocks numbers small_digest
+plane_written =
+    record {
+      counted = refl;
+      fits = omega arith;
+      lawful = plane_lawful 12 (omega arith) (omega arith);
+      digest_size = λ b. refl;
+      digest_named = omega arith;
+      sealer_named = omega arith;
+      number_fits = omega arith;
+      signature_fits = omega arith;
+      genuine = refl;
+    }
+
+pub not_empty : NotEmpty
+unfolding framed_blocks row_image whole_image numbers keep_where any_of row_digest whole_digest word same_family same_scheme same_count check_before passes agrees suspect suspects check_answer answer after after_all events rewritten_to standing is_changed changed compares image_of digests_of_rows seal_head text_to_sign seal_part as_number small_digest plane yes one_byte_blocks plane_sheet plane_part spoil checked
+not_empty =
+    record {
+      promised = sealed_promises plane yes 70000 plane_sheet [] plane_written;
+      clear = (no_clash_by _ _ refl, (no_clash_by _ _ refl, (no_clash_by _ _ refl, (no_clash_by _ _ refl, (no_clash_by _ _ refl, (no_clash_by _ _ refl, (no_clash_by _ _ refl, (no_clash_by _ _ refl, (no_clash_by _ _ refl, (no_clash_by _ _ refl, tt))))))))));
+      one_changed = refl;
+      one_named = refl;
+    }

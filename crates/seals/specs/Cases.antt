@@ -1,0 +1,138 @@
+-- Worked cases; the seals are under a small digest that sees its whole input. Assumes nothing.
+use Rattle.std.specs.Prelude.{◌≡◌, ℕ, ◌+◌, ◌*◌, true, not, List, [], ◌∷◌, take, replicate, Ok, Err, Result}
+use Rattle.std.specs.List.{AllByRecursion, flat_map}
+use Rattle.answers.specs.declared.Refusal.{Refusal}
+use Rattle.answers.specs.Refusals.{number_of, values_of}
+use Rattle.digests.specs.Strings.{Bytes}
+use Rattle.families.specs.Numbers.{numbers, keep_where}
+use Rattle.families.specs.Family.{touches}
+use Rattle.families.specs.Shape.{Shape}
+use Rattle.families.specs.Field.{binary_product}
+use Rattle.families.specs.Single.{single_holds}
+use Rattle.families.specs.Halves.{halves_shape}
+use Rattle.families.specs.Plane.{plane_shape}
+use Rattle.families.specs.Choice.{numbered_shape, choose_answer}
+use Rattle.seals.specs.Images.{row_image, whole_image}
+use Rattle.seals.specs.Scheme.{Scheme, Inspection, scheme, inspection}
+use Rattle.seals.specs.Part.{seal_part}
+use Rattle.seals.specs.Calls.{passes, suspects}
+use Rattle.seals.specs.Law.{Call, Answer, after_all, changed, reply, Clear, Promised}
+use Rattle.seals.specs.Law.Call.{rewrite, check}
+use Rattle.seals.specs.Law.Done.{named, rewritten, accepted, vouched, excerpted, confirmed}
+
+-- the rows of a family that hold block j, rising
+unfoldable pub rows_with : Shape → ℕ → List ℕ
+rows_with f j = keep_where (λ i. f.holds i j) (numbers 1 f.rows)
+
+-- kind, q and k of a family, or the number of a refusal
+abbrev pub told : Result Shape Refusal → List ℕ
+told (Ok f) = f.kind ∷ (f.q ∷ (f.k ∷ []))
+told (Err e) = number_of e ∷ []
+
+-- the whole string as one number in base 257, its bytes as the digits 1 to 256, first byte lowest
+unfoldable pub as_number : Bytes → ℕ
+as_number [] = 0
+as_number (b ∷ bs) = b + 1 + 257 * as_number bs
+
+unfoldable pub small_digest : Bytes → Bytes
+small_digest b = as_number b ∷ replicate 31 0
+
+-- the plane of twelve blocks
+unfoldable pub plane : Scheme
+plane = scheme small_digest 1 (plane_shape 12)
+
+-- an inspector that says yes
+unfoldable pub yes : Inspection
+yes = inspection 1 (λ _ _ _. true)
+
+-- blocks of one byte each
+unfoldable pub one_byte_blocks : List ℕ → List Bytes
+one_byte_blocks [] = []
+one_byte_blocks (x ∷ xs) = (x ∷ []) ∷ one_byte_blocks xs
+
+-- each block is its own number
+unfoldable pub plane_sheet : List Bytes
+plane_sheet = one_byte_blocks (numbers 1 12)
+
+unfoldable pub plane_part : Bytes
+plane_part = seal_part plane 1 70000 plane_sheet []
+
+-- a rewrite of each of some blocks to the byte 99
+unfoldable pub spoil : List ℕ → List Call
+spoil [] = []
+spoil (j ∷ js) = rewrite j (99 ∷ []) ∷ spoil js
+
+-- what a check answers then
+unfoldable pub checked : List ℕ → Answer
+checked js = reply plane yes plane_part plane_sheet (spoil js) (check 2)
+
+-- the rows that fail then
+unfoldable pub failing : List ℕ → List ℕ
+failing js = keep_where (λ i. not (passes plane plane_part (after_all plane_sheet (spoil js)) i)) (numbers 1 9)
+
+-- the blocks that an answer names, or the number and values of its refusal
+abbrev pub said : Answer → List ℕ
+said (Ok (named js)) = js
+said (Ok (rewritten n)) = n ∷ []
+said (Ok (accepted b)) = b
+said (Ok (vouched i n)) = i ∷ (n ∷ [])
+said (Ok (excerpted e)) = e
+said (Ok confirmed) = []
+said (Err e) = number_of e ∷ values_of e
+
+-- what is computed, and what it is
+unfoldable pub cases : List (List ℕ × List ℕ)
+cases =
+    -- plane, blocks 4 and 8 changed: the rows that hold one of them, those that fail, and the named blocks
+    (keep_where (touches (plane_shape 12).holds (4 ∷ 8 ∷ [])) (numbers 1 9), 1 ∷ 2 ∷ 4 ∷ 6 ∷ 7 ∷ [])
+    ∷ (failing (4 ∷ 8 ∷ []), 1 ∷ 2 ∷ 4 ∷ 6 ∷ 7 ∷ [])
+    ∷ (said (checked (4 ∷ 8 ∷ [])), 4 ∷ 8 ∷ [])
+    -- plane, blocks 1, 4 and 7 changed: the suspects, and the refusal with their count
+    ∷ (suspects plane plane_part (after_all plane_sheet (spoil (1 ∷ 4 ∷ 7 ∷ []))), 1 ∷ 4 ∷ 7 ∷ 11 ∷ 12 ∷ [])
+    ∷ (said (checked (1 ∷ 4 ∷ 7 ∷ [])), 28 ∷ 5 ∷ [])
+    -- plane, unchanged
+    ∷ (said (checked []), [])
+    -- plane, the rows of blocks 1 to 12
+    ∷ (
+      flat_map (rows_with (plane_shape 12)) (numbers 1 12),
+      1 ∷ 2 ∷ 3 ∷ 4 ∷ 5 ∷ 6 ∷ 7 ∷ 8 ∷ 9 ∷ 1 ∷ 4 ∷ 7 ∷ 2 ∷ 5 ∷ 8 ∷ 3 ∷ 6 ∷ 9
+          ∷ 1 ∷ 5 ∷ 9 ∷ 2 ∷ 6 ∷ 7 ∷ 3 ∷ 4 ∷ 8 ∷ 1 ∷ 6 ∷ 8 ∷ 2 ∷ 4 ∷ 9 ∷ 3 ∷ 5 ∷ 7 ∷ [],
+    )
+    -- halves: how many rows, and the rows of a block
+    ∷ ((halves_shape 6).rows ∷ [], 4 ∷ [])
+    ∷ (rows_with (halves_shape 6) 5, 2 ∷ 4 ∷ [])
+    ∷ ((halves_shape 7).rows ∷ [], 5 ∷ [])
+    ∷ ((halves_shape 1).rows ∷ [], 2 ∷ [])
+    ∷ (rows_with (halves_shape 1) 1, 1 ∷ [])
+    -- polynomial, q = 5, k = 3
+    ∷ (rows_with (numbered_shape 5 3 125) 9, 4 ∷ 10 ∷ 11 ∷ 17 ∷ 23 ∷ [])
+    ∷ (rows_with (numbered_shape 5 3 125) 26, 1 ∷ 7 ∷ 15 ∷ 20 ∷ 22 ∷ [])
+    -- products in the fields of 8 and 16
+    ∷ (binary_product 3 0b1011 2 4 ∷ binary_product 3 0b1011 7 7 ∷ binary_product 4 0b10011 2 8 ∷ [], 3 ∷ 3 ∷ 3 ∷ [])
+    -- choose
+    ∷ (told (choose_answer 125 2), 3 ∷ 5 ∷ 3 ∷ [])
+    ∷ (told (choose_answer 126 2), 3 ∷ 7 ∷ 4 ∷ [])
+    ∷ (told (choose_answer 10 8), 6 ∷ [])
+    -- single, row 1, block 1 is 41 42
+    ∷ (row_image (single_holds 1) 1 ((0x41 ∷ 0x42 ∷ []) ∷ []), 0x01 ∷ 0x00 ∷ 0x01 ∷ 0x00 ∷ 0x01 ∷ 0x00 ∷ 0x02 ∷ 0x41 ∷ 0x42 ∷ [])
+    -- blocks 41 and empty
+    ∷ (
+      whole_image ((0x41 ∷ []) ∷ [] ∷ []),
+      0x02 ∷ 0x00 ∷ 0x02 ∷ 0x00 ∷ 0x01 ∷ 0x00 ∷ 0x01 ∷ 0x41 ∷ 0x00 ∷ 0x02 ∷ 0x00 ∷ 0x00 ∷ [],
+    )
+    -- the first bytes of the plane's seal part: n, kinds, d, t, seal number 70000
+    ∷ (
+      take 16 plane_part,
+      0x00 ∷ 0x0C ∷ 0x04 ∷ 0x00 ∷ 0x00 ∷ 0x01 ∷ 0x01 ∷ 0x00 ∷ 0x00 ∷ 0x02 ∷ 0x00 ∷ 0x09 ∷ 0x00 ∷ 0x01 ∷ 0x11 ∷ 0x70 ∷ [],
+    )
+    ∷ []
+
+abbrev pub WorkedCases : Type 0
+WorkedCases = AllByRecursion {X = List ℕ × List ℕ} (λ c. c.0 ≡ c.1) cases
+
+-- What the law assumes can be met: a seal part keeps the promises, and a check that meets no clash names a changed block.
+pub record NotEmpty : Type 0 where
+  pub promised : Promised plane yes plane_part plane_sheet
+  pub clear : Clear plane yes plane_part plane_sheet (spoil (4 ∷ [])) (check 2)
+  pub one_changed : changed plane yes plane_part plane_sheet (spoil (4 ∷ [])) ≡ 4 ∷ []
+  pub one_named : checked (4 ∷ []) ≡ Ok (named (4 ∷ []))

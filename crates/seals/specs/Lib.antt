@@ -1,0 +1,10 @@
+pub mod Images
+pub mod Scheme
+pub mod Part
+pub mod Calls
+pub mod Excerpts
+pub mod Law
+pub mod Cases
+pub mod View
+pub mod Cleared
+pub mod Passing

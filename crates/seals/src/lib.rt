@@ -1,0 +1,33 @@
+// Seals of sheets. Theorems first, each on the contract of a function.
+#![tactic(auto)]
+
+ghost use Rattle.seals.specs.Law.{ExcerptForm};
+ghost use Rattle.seals.specs.Cases.{WorkedCases, NotEmpty};
+
+mod accepted;
+mod checking;
+mod excerpts;
+mod frames;
+mod part;
+mod sealing;
+mod vouching;
+
+pub use accepted::{Accepted, accept};
+pub use frames::put_frame;
+pub use sealing::seal;
+
+#[tactic(auto, using(crate::proofs::ExcerptLaw::excerpt_form))]
+pub fn excerpts_are_frames()
+    ensures { ExcerptForm }
+{}
+
+#[tactic(auto, using(crate::proofs::Cases::worked_cases))]
+pub fn worked_cases()
+    ensures { WorkedCases }
+{}
+
+// What the law over runs assumes can be met.
+#[tactic(auto, using(crate::proofs::Cases::not_empty))]
+pub fn hypotheses_can_be_met()
+    ensures { NotEmpty }
+{}

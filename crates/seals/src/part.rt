@@ -1,0 +1,107 @@
+// Reading a seal part. Its places are read here and nowhere else.
+ghost use Rattle.std.specs.Prelude.{◌≡◌, ◌+◌, ◌*◌, ◌≤◌, ◌&&◌, length, ◌==◌};
+ghost use Rattle.seals.specs.Part.{word, to_512, is_seal_part, seal_number, row_digest, whole_digest, text_length, part_blocks, part_strength, part_rows};
+ghost use Rattle.seals.specs.Calls.{same_family};
+
+use answers::RowNumber;
+use families::family::Family;
+
+// The bytes before the digests.
+pub(crate) const HEAD: usize = 16;
+
+pub(crate) const DIGEST: usize = 32;
+
+// The fewest bytes that a seal part has besides its rows and its signature.
+const LEAST: usize = 50;
+
+// The two bytes at a place, as a number.
+#[tactic(auto, unfolding(crate::specs::Part::word))]
+pub(crate) fn read_word(bytes: &[u8], place: usize) -> u16
+    requires { place + 2 ≤ length bytes.now }
+    ensures { result ≡ word bytes.now place }
+{
+    u16::from_be_bytes([bytes[place], bytes[place + 1]])
+}
+
+#[tactic(auto, unfolding(crate::specs::Part::seal_number, crate::specs::Part::word))]
+pub(crate) fn read_number(part: &[u8]) -> u32
+    requires { 16 ≤ length part.now }
+    ensures { result ≡ seal_number part.now }
+{
+    u32::from_be_bytes([part[12], part[13], part[14], part[15]])
+}
+
+// Where the signed text ends.
+pub(crate) fn text_end(part: &[u8]) -> usize
+    requires { 12 ≤ length part.now }
+    ensures { result ≡ text_length part.now }
+{
+    HEAD + DIGEST * (usize::from(read_word(part, 10)) + 1)
+}
+
+// The reader of a part that is not yet known to be one.
+#[tactic(auto, unfolding(crate::specs::Part::is_seal_part, crate::specs::Part::to_512))]
+pub(crate) fn is_seal_part(part: &[u8]) -> bool
+    ensures { result ≡ is_seal_part part.now }
+{
+    part.len() >= LEAST
+        && has_counts(part)
+        && part[2] != 0
+        && part[5] != 0
+        && part[6] != 0
+        && part[7] == 0
+        && has_length(part)
+}
+
+// Whether n, t and d are from 1 to 512.
+#[tactic(auto, unfolding(crate::specs::Part::to_512))]
+fn has_counts(part: &[u8]) -> bool
+    requires { 50 ≤ length part.now }
+    ensures { result ≡ (to_512 (part_blocks part.now) && (to_512 (part_rows part.now) && to_512 (part_strength part.now))) }
+{
+    let limits = 1..=512;
+    limits.contains(&read_word(part, 0))
+        && limits.contains(&read_word(part, 10))
+        && limits.contains(&read_word(part, 8))
+}
+
+// Whether a part is as long as its rows and its signature make it.
+fn has_length(part: &[u8]) -> bool
+    requires { 50 ≤ length part.now }
+    ensures { result ≡ (length part.now == 50 + (32 * part_rows part.now + word part.now (text_length part.now))) }
+{
+    let end = text_end(part);
+    end + 2 <= part.len() && part.len() == end + 2 + usize::from(read_word(part, end))
+}
+
+// Whether a family is the seal's.
+#[tactic(auto, unfolding(crate::specs::Calls::same_family))]
+pub(crate) fn is_family_of<F: Family>(part: &[u8], family: &F) -> bool
+    requires { 16 ≤ length part.now }
+    ensures { result ≡ same_family (F.shape family.now) part.now }
+{
+    read_word(part, 0) == family.block_count()
+        && part[2] == family.kind_byte()
+        && part[3] == family.q()
+        && part[4] == family.k()
+        && read_word(part, 8) == family.strength()
+        && read_word(part, 10) == family.row_count()
+}
+
+#[tactic(auto, unfolding(crate::specs::Part::row_digest))]
+pub(crate) fn row_digest_of(part: &[u8], row: RowNumber) -> &[u8]
+    requires { (1 ≤ row.0) × (48 + 32 * row.0 ≤ length part.now) }
+    ensures { result.now ≡ row_digest part.now row.0 }
+{
+    let start = HEAD + DIGEST * (usize::from(row.0) - 1);
+    &part[start..start + DIGEST]
+}
+
+#[tactic(auto, unfolding(crate::specs::Part::whole_digest))]
+pub(crate) fn whole_digest_of(part: &[u8]) -> &[u8]
+    requires { text_length part.now ≤ length part.now }
+    ensures { result.now ≡ whole_digest part.now }
+{
+    let end = text_end(part);
+    &part[end - DIGEST..end]
+}
