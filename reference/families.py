@@ -5,7 +5,7 @@ d. For every block and every d others some row holds the block and none of the
 others. Blocks and rows are numbered from 1.
 """
 
-from functools import lru_cache
+from functools import cached_property, lru_cache
 
 from sheet import MAX_BLOCKS, Refused
 
@@ -74,6 +74,19 @@ class Family:
         if j < 1 or j > self.n:
             return []
         return sorted(self.rows_of_present(j))
+
+    @cached_property
+    def table(self):
+        """Every row from 1 to t with its blocks, rising; some have none."""
+        table = {i: [] for i in range(1, self.t + 1)}
+        for j in range(1, self.n + 1):
+            for i in self.rows_of(j):
+                table[i].append(j)
+        return table
+
+    def blocks_in(self, i):
+        """The blocks that row i holds, rising; none if there is no row i."""
+        return self.table.get(i, [])
 
 
 class Single(Family):

@@ -13,31 +13,8 @@ from itertools import combinations
 
 from families import (COEFFICIENT_COUNTS, FIELD_SIZES, Halves, Plane, Polynomial, Single,
                       choose, half_full, make_field)
-from nazkoiber import MAX_NUMBER, NotUnderstood, read_number
 from sheet import MAX_BLOCKS, Refused
-
-MAX_SMALL = 255
-
-# Word of a kind -> what makes it, and the largest number at each place.
-KINDS = {
-    b"single": (Single, [MAX_NUMBER]),
-    b"halves": (Halves, [MAX_NUMBER]),
-    b"polynomial": (Polynomial, [MAX_SMALL, MAX_SMALL, MAX_NUMBER]),
-    b"plane": (Plane, [MAX_NUMBER]),
-}
-
-
-def read_kind(kind, words):
-    """What makes a family and the numbers for it; nothing is made yet."""
-    if kind not in KINDS or len(words) != len(KINDS[kind][1]):
-        raise NotUnderstood
-    maker, limits = KINDS[kind]
-    return maker, [read_number(word, most) for word, most in zip(words, limits)]
-
-
-def show(family):
-    return (f"family {family.kind} {family.q} {family.k} {family.n} "
-            f"{family.t} {family.d}")
+from words import NotUnderstood, read_kind, read_number, write_family
 
 
 def call(words):
@@ -46,14 +23,14 @@ def call(words):
     match words:
         case [b"family", kind, *numbers]:
             maker, arguments = read_kind(kind, numbers)
-            return show(maker(*arguments))
+            return write_family(maker(*arguments))
         case [b"rows", block, kind, *numbers]:
             j = read_number(block)
             maker, arguments = read_kind(kind, numbers)
             return " ".join(["rows", *map(str, maker(*arguments).rows_of(j))])
         case [b"choose", count, wanted]:
             n, d = read_number(count), read_number(wanted)
-            return show(choose(n, d))
+            return write_family(choose(n, d))
     raise NotUnderstood
 
 

@@ -9,8 +9,9 @@ and the generator stops if the reference program answers otherwise.
 import random
 import sys
 
-from nazkoiber import Replay, write_hex
+from nazkoiber import Replay
 from sheet import MAX_BLOCKS, MAX_BYTES
+from words import write_hex
 
 OVER = MAX_BYTES + 1
 

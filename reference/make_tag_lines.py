@@ -10,38 +10,10 @@ published ones stand here, and both uses stop if tags.py answers otherwise.
 import hashlib
 import sys
 
-from nazkoiber import NotUnderstood, read_hex, read_number, write_hex
 from sheet import Refused
-from tags import DIGESTS, KEY_BYTES, LIMIT, NAME_BYTES, TagKey, inspect, make_tag
-
-MAX_DRAWN = 2 ** 32 - 1
-
-
-# Readers of the words of a line.
-
-def read_digest(word):
-    if word not in DIGESTS:
-        raise NotUnderstood
-    return word
-
-
-def read_exactly(word, length):
-    data = read_hex(word)
-    if len(data) != length:
-        raise NotUnderstood
-    return data
-
-
-def read_key(word):
-    return read_exactly(word, KEY_BYTES)
-
-
-def read_name(word):
-    return read_exactly(word, NAME_BYTES)
-
-
-def read_drawn(word):
-    return read_number(word, MAX_DRAWN)
+from tags import DIGESTS, KEY_BYTES, LIMIT, TagKey, inspect, make_tag
+from words import (MAX_DRAWN, NotUnderstood, read_digest, read_drawn, read_each, read_hex,
+                   read_key, read_name, write_hex)
 
 
 # What the lines call.
@@ -49,7 +21,7 @@ def read_drawn(word):
 def draw_and_sign(digest, key, name, next_number, text):
     tag_key = TagKey(digest, key, name, next_number)
     number = tag_key.draw()
-    return f"tag {number} {tag_key.sign(text).hex()} {tag_key.left}"
+    return f"tag {number} {tag_key.sign(number, text).hex()} {tag_key.left}"
 
 
 def yes_or_no(*arguments):
@@ -64,12 +36,12 @@ WORDS = {
 
 
 def call(words):
-    if words[0] not in WORDS or len(words) - 1 != len(WORDS[words[0]][1]):
+    if words[0] not in WORDS:
         raise NotUnderstood
     function, readers = WORDS[words[0]]
     # All words are read before the call, so that a bad word shows even where
     # the call would be refused.
-    return function(*[read(word) for read, word in zip(readers, words[1:])])
+    return function(*read_each(readers, words[1:]))
 
 
 def answer(line):

@@ -13,10 +13,14 @@ SHEET_NOT_EMPTY = 22
 
 
 class Refused(Exception):
-    """A call that was refused; the sheet is as it was before the call."""
+    """A call that was refused; everything is as it was before the call.
 
-    def __init__(self, number):
-        super().__init__(f"refused {number}")
+    Its text is what is printed: the number, and behind it the values that the
+    answer carries.
+    """
+
+    def __init__(self, number, *values):
+        super().__init__(" ".join(map(str, ("refused", number, *values))))
         self.number = number
 
 

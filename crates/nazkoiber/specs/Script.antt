@@ -1,10 +1,16 @@
 -- What the lines of a script say. Assumes nothing.
 use Rattle.std.specs.Prelude.{ℕ, [], ◌∷◌, Some, None, vec_items, codes, Option}
 use Rattle.std.specs.Option.{option_map}
-use Rattle.scripts.specs.Words.{Bytes, first_word, behind_word, alone, entry_at, number_of}
-use Rattle.scripts.specs.Hex.{both, bytes_in}
+use Rattle.scripts.specs.Words.{Bytes, alone, entry_at, number_of}
+use Rattle.scripts.specs.Hex.{hex_bytes, array_of}
+use Rattle.scripts.specs.Reading.{next_as, last_as}
+use Rattle.told.specs.Algorithms.{algorithm_of}
+use Rattle.told.specs.Names.{count_of, family_named}
+use Rattle.told.specs.declared.algorithm.Algorithm.{Algorithm}
+use Rattle.told.specs.declared.name.FamilyName.{FamilyName}
 use Rattle.nazkoiber.specs.declared.call.Call.{Call}
 use Rattle.nazkoiber.specs.declared.call.Call.TheVariants as calls
+use Rattle.nazkoiber.specs.declared.call.TagWords.{TagWords}
 use Rattle.nazkoiber.specs.declared.call.Verb.{Verb}
 use Rattle.nazkoiber.specs.declared.call.Verb.TheVariants as verbs
 
@@ -16,6 +22,21 @@ pub data Told : Type 0 where
   rewrite : ℕ → Bytes → Told
   show : ℕ → Told
   sheet : Told
+  digest : Algorithm → Told
+  family : FamilyName → Told
+  choose : ℕ → ℕ → Told
+  rows : ℕ → Told
+  key : TagWords → Told
+  draw : Told
+  burn : Told
+  seal : ℕ → Told
+  part : Told
+  set_part : Bytes → Told
+  accept : Told
+  check : ℕ → Told
+  vouch : ℕ → Bytes → Told
+  excerpt : ℕ → ℕ → ℕ → Told
+  confirm : ℕ → ℕ → Bytes → Bytes → Told
 
 abbrev pub told : Call → Told
 told calls.Clear = clear
@@ -24,40 +45,111 @@ told (calls.Add bytes) = add (vec_items bytes)
 told (calls.Rewrite number bytes) = rewrite number.0 (vec_items bytes)
 told (calls.Show number) = show number.0
 told calls.Sheet = sheet
+told (calls.Digest algorithm) = digest algorithm
+told (calls.Family name) = family name
+told (calls.Choose n d) = choose n d
+told (calls.Rows block) = rows block.0
+told (calls.Key words) = key words
+told calls.Draw = draw
+told calls.Burn = burn
+told (calls.Seal room) = seal room
+told calls.Part = part
+told (calls.SetPart bytes) = set_part (vec_items bytes)
+told calls.Accept = accept
+told (calls.Check room) = check room
+told (calls.Vouch block bytes) = vouch block.0 (vec_items bytes)
+told (calls.Excerpt block row room) = excerpt block.0 row.0 room
+told (calls.Confirm block row bytes others) = confirm block.0 row.0 (vec_items bytes) (vec_items others)
 
 -- the first word of each call
 abbrev pub verb_of : Bytes → Option Verb
 verb_of =
     entry_at
-    ((codes "clear", verbs.Clear)
+    ((codes "check", verbs.Check)
+    ∷ ((codes "clear", verbs.Clear)
     ∷ ((codes "cut", verbs.Cut)
     ∷ ((codes "add", verbs.Add)
-    ∷ ((codes "rewrite", verbs.Rewrite) ∷ ((codes "show", verbs.Show) ∷ ((codes "sheet", verbs.Sheet) ∷ []))))))
+    ∷ ((codes "rewrite", verbs.Rewrite)
+    ∷ ((codes "show", verbs.Show)
+    ∷ ((codes "sheet", verbs.Sheet)
+    ∷ ((codes "digest", verbs.Digest)
+    ∷ ((codes "family", verbs.Family)
+    ∷ ((codes "choose", verbs.Choose)
+    ∷ ((codes "rows", verbs.Rows)
+    ∷ ((codes "key", verbs.Key)
+    ∷ ((codes "draw", verbs.Draw)
+    ∷ ((codes "burn", verbs.Burn)
+    ∷ ((codes "seal", verbs.Seal)
+    ∷ ((codes "part", verbs.Part)
+    ∷ ((codes "accept", verbs.Accept)
+    ∷ ((codes "vouch", verbs.Vouch) ∷ ((codes "excerpt", verbs.Excerpt) ∷ ((codes "confirm", verbs.Confirm) ∷ []))))))))))))))))))))
 
--- one word more, which is a block's number
-abbrev pub number_in : Option Bytes → Option ℕ
-number_in None = None
-number_in (Some word) = number_of word 65535
+-- the room that a last word names, of at most so much; where there is none, the usual one
+abbrev pub room_in : ℕ → ℕ → Option Bytes → Option ℕ
+room_in usual most None = Some usual
+room_in usual most (Some word) = number_of word most
 
--- two words more: a block's number and bytes
-abbrev pub number_bytes_in : {A : Type 0} → (ℕ → Bytes → A) → Option Bytes → Option A
-number_bytes_in f None = None
-number_bytes_in f (Some rest) = both f (number_of (first_word rest) 65535) (bytes_in (behind_word rest))
+-- so big that every sheet can be sealed, checked and excerpted
+abbrev pub seal_room : ℕ
+seal_room = 82001
+
+abbrev pub check_room : ℕ
+check_room = 512
+
+abbrev pub excerpt_room : ℕ
+excerpt_room = 131070
+
+-- the most that a line can ask for: of a check, and of the others
+abbrev pub max_places : ℕ
+max_places = 65535
+
+abbrev pub max_room : ℕ
+max_room = 1048576
+
+-- the word for tag keys; there are no others yet
+abbrev pub tag_word : Bytes → Option (Unit {0})
+tag_word = entry_at ((codes "tag", tt) ∷ [])
+
+-- the next number of a key, as a word
+abbrev pub next_of : Bytes → Option ℕ
+next_of word = number_of word 4294967295
+
+-- the digest's name, the key's 32 bytes, its name's 8, and its next number
+abbrev pub tag_told : Option Bytes → Option Told
+tag_told =
+    next_as algorithm_of (λ a.
+    next_as (array_of 32) (λ secret.
+    next_as (array_of 8) (λ name.
+    last_as next_of (λ next. key (record { digest = a; secret = secret; name = name; next = next })))))
+
+-- the present seal part, or the bytes of another
+abbrev pub part_told : Option Bytes → Option Told
+part_told None = Some part
+part_told (Some word) = option_map set_part (hex_bytes word)
 
 -- the call of a first word, with what stands behind the space after it
 abbrev pub told_by : Verb → Option Bytes → Option Told
 told_by verbs.Clear rest = alone clear rest
-told_by verbs.Cut rest = option_map cut (bytes_in rest)
-told_by verbs.Add rest = option_map add (bytes_in rest)
-told_by verbs.Rewrite rest = number_bytes_in rewrite rest
-told_by verbs.Show rest = option_map show (number_in rest)
+told_by verbs.Cut rest = last_as hex_bytes cut rest
+told_by verbs.Add rest = last_as hex_bytes add rest
+told_by verbs.Rewrite rest = next_as count_of (λ j. last_as hex_bytes (rewrite j)) rest
+told_by verbs.Show rest = last_as count_of show rest
 told_by verbs.Sheet rest = alone sheet rest
+told_by verbs.Digest rest = last_as algorithm_of digest rest
+told_by verbs.Family rest = option_map family (family_named rest)
+told_by verbs.Choose rest = next_as count_of (λ n. last_as count_of (choose n)) rest
+told_by verbs.Rows rest = last_as count_of rows rest
+told_by verbs.Key rest = next_as tag_word (λ _. tag_told) rest
+told_by verbs.Draw rest = alone draw rest
+told_by verbs.Burn rest = alone burn rest
+told_by verbs.Seal rest = option_map seal (room_in seal_room max_room rest)
+told_by verbs.Part rest = part_told rest
+told_by verbs.Accept rest = alone accept rest
+told_by verbs.Check rest = option_map check (room_in check_room max_places rest)
+told_by verbs.Vouch rest = next_as count_of (λ j. last_as hex_bytes (vouch j)) rest
+told_by verbs.Excerpt rest = next_as count_of (λ j. next_as count_of (λ i behind. option_map (excerpt j i) (room_in excerpt_room max_room behind))) rest
+told_by verbs.Confirm rest = next_as count_of (λ j. next_as count_of (λ i. next_as hex_bytes (λ v. last_as hex_bytes (confirm j i v)))) rest
 
--- a first word that is in no table says nothing
-abbrev pub told_if : Option Verb → Option Bytes → Option Told
-told_if None rest = None
-told_if (Some verb) rest = told_by verb rest
-
--- the call that a line says, if it says one
+-- the call that a line says, if it says one; a first word that is in no table says nothing
 unfoldable pub line_told : Bytes → Option Told
-line_told line = told_if (verb_of (first_word line)) (behind_word line)
+line_told line = next_as verb_of told_by (Some line)

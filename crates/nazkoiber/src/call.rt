@@ -3,16 +3,38 @@ ghost use Rattle.std.specs.Prelude.{◌≡◌};
 ghost use Rattle.std.specs.Option.{ok_or};
 ghost use Rattle.std.specs.Result.{result_map_both};
 ghost use Rattle.scripts.specs.declared.error.ParseError.TheVariants.{NotUnderstood};
-ghost use Rattle.scripts.specs.Words.{number_of};
+ghost use Rattle.scripts.specs.Words.{alone};
 ghost use Rattle.scripts.specs.Reading.{Reads};
-ghost use Rattle.nazkoiber.specs.Script.{told, verb_of, told_by, line_told};
+ghost use Rattle.told.specs.Algorithms.{algorithm_of};
+ghost use Rattle.told.specs.Names.{count_of};
+ghost use Rattle.nazkoiber.specs.declared.call.Verb.TheVariants as verbs;
+ghost use Rattle.nazkoiber.specs.Script.{told, verb_of, told_by, tag_told, part_told, room_in, line_told};
 
-use answers::BlockNumber;
-use scripts::{ParseError, Words, decode_hex, parse_number};
+use answers::{BlockNumber, RowNumber};
+use scripts::{ParseError, Words, decode_array, decode_hex, parse_number};
 use std::alloc::Global;
+use told::{Algorithm, FamilyName, parse_count};
 
-// The largest block number that a script can name.
-const MAX_NUMBER: u32 = 65_535;
+// The largest room of a check, and that of the other calls.
+const MAX_PLACES: u32 = 65_535;
+
+const MAX_ROOM: u32 = 1_048_576;
+
+// The rooms where a line names none: for every sheet that can be sealed, checked and excerpted.
+const SEAL_ROOM: usize = 65_535 + 32 * 513 + 50;
+
+const CHECK_ROOM: usize = 512;
+
+const EXCERPT_ROOM: usize = 2 * 65_535;
+
+// A tag key by its words: the digest, the secret, the name and the next number.
+#[derive(Clone, Copy)]
+pub struct TagWords {
+    pub digest: Algorithm,
+    pub secret: [u8; 32],
+    pub name: [u8; 8],
+    pub next: u32,
+}
 
 // A script line that was taken apart.
 #[derive(Drop)]
@@ -23,6 +45,24 @@ pub enum Call {
     Rewrite(BlockNumber, Vec<u8>),
     Show(BlockNumber),
     Sheet,
+    Digest(Algorithm),
+    Family(FamilyName),
+    // A count of blocks, and a strength.
+    Choose(u16, u16),
+    Rows(BlockNumber),
+    Key(TagWords),
+    Draw,
+    Burn,
+    // Places in the buffer, here and in check and excerpt.
+    Seal(usize),
+    Part,
+    SetPart(Vec<u8>),
+    Accept,
+    Check(usize),
+    Vouch(BlockNumber, Vec<u8>),
+    Excerpt(BlockNumber, RowNumber, usize),
+    // A block, a row, offered bytes and an excerpt.
+    Confirm(BlockNumber, RowNumber, Vec<u8>, Vec<u8>),
 }
 
 // The first word of a line. Apart from the call, since the definition of what a line says goes by it.
@@ -34,6 +74,20 @@ enum Verb {
     Rewrite,
     Show,
     Sheet,
+    Digest,
+    Family,
+    Choose,
+    Rows,
+    Key,
+    Draw,
+    Burn,
+    Seal,
+    Part,
+    Accept,
+    Check,
+    Vouch,
+    Excerpt,
+    Confirm,
 }
 
 impl Call {
@@ -54,43 +108,167 @@ impl Verb {
         ensures { result ≡ verb_of word.now }
     {
         match word {
+            b"check" => Some(Verb::Check),
             b"clear" => Some(Verb::Clear),
             b"cut" => Some(Verb::Cut),
             b"add" => Some(Verb::Add),
             b"rewrite" => Some(Verb::Rewrite),
             b"show" => Some(Verb::Show),
             b"sheet" => Some(Verb::Sheet),
+            b"digest" => Some(Verb::Digest),
+            b"family" => Some(Verb::Family),
+            b"choose" => Some(Verb::Choose),
+            b"rows" => Some(Verb::Rows),
+            b"key" => Some(Verb::Key),
+            b"draw" => Some(Verb::Draw),
+            b"burn" => Some(Verb::Burn),
+            b"seal" => Some(Verb::Seal),
+            b"part" => Some(Verb::Part),
+            b"accept" => Some(Verb::Accept),
+            b"vouch" => Some(Verb::Vouch),
+            b"excerpt" => Some(Verb::Excerpt),
+            b"confirm" => Some(Verb::Confirm),
             _ => None,
         }
     }
 
     // Takes apart what stands behind the first word.
-    fn parse_rest(self, alloc: Global, mut words: Words) -> Result<Call, ParseError>
+    fn parse_rest(self, alloc: Global, words: Words) -> Result<Call, ParseError>
         ensures { Reads told (told_by self words.entry) result }
     {
         match self {
-            Verb::Clear => {
-                words.end()?;
-                Ok(Call::Clear)
-            }
+            Verb::Clear => alone(words, Call::Clear),
             Verb::Cut => Ok(Call::Cut(decode_hex(alloc, words.last_word()?)?)),
             Verb::Add => Ok(Call::Add(decode_hex(alloc, words.last_word()?)?)),
-            Verb::Rewrite => {
-                let number = block_number(words.next_word()?)?;
-                Ok(Call::Rewrite(number, decode_hex(alloc, words.last_word()?)?))
-            }
+            Verb::Rewrite => parse_rewrite(alloc, words),
             Verb::Show => Ok(Call::Show(block_number(words.last_word()?)?)),
-            Verb::Sheet => {
-                words.end()?;
-                Ok(Call::Sheet)
-            }
+            Verb::Sheet => alone(words, Call::Sheet),
+            Verb::Digest => Ok(Call::Digest(algorithm(words.last_word()?)?)),
+            Verb::Family => Ok(Call::Family(FamilyName::parse(words)?)),
+            Verb::Choose => parse_choose(words),
+            Verb::Rows => Ok(Call::Rows(block_number(words.last_word()?)?)),
+            Verb::Key => parse_key(alloc, words),
+            Verb::Draw => alone(words, Call::Draw),
+            Verb::Burn => alone(words, Call::Burn),
+            Verb::Seal => Ok(Call::Seal(parse_room(words, SEAL_ROOM, MAX_ROOM)?)),
+            Verb::Part => parse_part(alloc, words),
+            Verb::Accept => alone(words, Call::Accept),
+            Verb::Check => Ok(Call::Check(parse_room(words, CHECK_ROOM, MAX_PLACES)?)),
+            Verb::Vouch => parse_vouch(alloc, words),
+            Verb::Excerpt => parse_excerpt(words),
+            Verb::Confirm => parse_confirm(alloc, words),
         }
     }
 }
 
-fn block_number(digits: &[u8]) -> Result<BlockNumber, ParseError>
-    ensures { result_map_both (λ b. b.0) (λ e. e) result ≡ ok_or (number_of digits.now 65535) NotUnderstood }
+// A call that stands alone on its line.
+fn alone(words: Words, call: Call) -> Result<Call, ParseError>
+    ensures { Reads told (alone (told call) words.entry) result }
 {
-    let number = parse_number(digits, MAX_NUMBER).ok_or(ParseError::NotUnderstood)?;
-    Ok(BlockNumber(number as u16))
+    words.end()?;
+    Ok(call)
+}
+
+fn parse_rewrite(alloc: Global, mut words: Words) -> Result<Call, ParseError>
+    ensures { Reads told (told_by verbs.Rewrite words.entry) result }
+{
+    let block = block_number(words.next_word()?)?;
+    Ok(Call::Rewrite(block, decode_hex(alloc, words.last_word()?)?))
+}
+
+fn parse_choose(mut words: Words) -> Result<Call, ParseError>
+    ensures { Reads told (told_by verbs.Choose words.entry) result }
+{
+    let n = parse_count(words.next_word()?)?;
+    Ok(Call::Choose(n, parse_count(words.last_word()?)?))
+}
+
+// The only kind of key so far is `tag`.
+fn parse_key(alloc: Global, mut words: Words) -> Result<Call, ParseError>
+    ensures { Reads told (told_by verbs.Key words.entry) result }
+{
+    match words.next_word()? {
+        b"tag" => parse_tag(alloc, words),
+        _ => Err(ParseError::NotUnderstood),
+    }
+}
+
+fn parse_tag(alloc: Global, mut words: Words) -> Result<Call, ParseError>
+    ensures { Reads told (tag_told words.entry) result }
+{
+    let digest = algorithm(words.next_word()?)?;
+    let secret = decode_array::<32>(alloc, words.next_word()?)?;
+    let name = decode_array::<8>(alloc, words.next_word()?)?;
+    let next = parse_number(words.last_word()?, u32::MAX).ok_or(ParseError::NotUnderstood)?;
+    Ok(Call::Key(TagWords {
+        digest,
+        secret,
+        name,
+        next,
+    }))
+}
+
+fn parse_part(alloc: Global, words: Words) -> Result<Call, ParseError>
+    ensures { Reads told (part_told words.entry) result }
+{
+    match words.rest() {
+        None => Ok(Call::Part),
+        Some(word) => Ok(Call::SetPart(decode_hex(alloc, word)?)),
+    }
+}
+
+fn parse_vouch(alloc: Global, mut words: Words) -> Result<Call, ParseError>
+    ensures { Reads told (told_by verbs.Vouch words.entry) result }
+{
+    let block = block_number(words.next_word()?)?;
+    Ok(Call::Vouch(block, decode_hex(alloc, words.last_word()?)?))
+}
+
+fn parse_excerpt(mut words: Words) -> Result<Call, ParseError>
+    ensures { Reads told (told_by verbs.Excerpt words.entry) result }
+{
+    let block = block_number(words.next_word()?)?;
+    let row = row_number(words.next_word()?)?;
+    Ok(Call::Excerpt(block, row, parse_room(words, EXCERPT_ROOM, MAX_ROOM)?))
+}
+
+fn parse_confirm(alloc: Global, mut words: Words) -> Result<Call, ParseError>
+    ensures { Reads told (told_by verbs.Confirm words.entry) result }
+{
+    let block = block_number(words.next_word()?)?;
+    let row = row_number(words.next_word()?)?;
+    let offered = decode_hex(alloc, words.next_word()?)?;
+    let excerpt = decode_hex(alloc, words.last_word()?)?;
+    Ok(Call::Confirm(block, row, offered, excerpt))
+}
+
+fn block_number(word: &[u8]) -> Result<BlockNumber, ParseError>
+    ensures { result_map_both (λ b. b.0) (λ e. e) result ≡ ok_or (count_of word.now) NotUnderstood }
+{
+    Ok(BlockNumber(parse_count(word)?))
+}
+
+fn row_number(word: &[u8]) -> Result<RowNumber, ParseError>
+    ensures { result_map_both (λ r. r.0) (λ e. e) result ≡ ok_or (count_of word.now) NotUnderstood }
+{
+    Ok(RowNumber(parse_count(word)?))
+}
+
+fn algorithm(word: &[u8]) -> Result<Algorithm, ParseError>
+    ensures { result ≡ ok_or (algorithm_of word.now) NotUnderstood }
+{
+    Algorithm::named(word).ok_or(ParseError::NotUnderstood)
+}
+
+// The room that a last word names, or the usual one.
+fn parse_room(words: Words, usual: usize, most: u32) -> Result<usize, ParseError>
+    ensures { result ≡ ok_or (room_in usual most words.entry) NotUnderstood }
+{
+    match words.rest() {
+        None => Ok(usual),
+        Some(word) => {
+            let room = parse_number(word, most).ok_or(ParseError::NotUnderstood)?;
+            Ok(room as usize)
+        }
+    }
 }

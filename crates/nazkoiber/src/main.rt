@@ -3,8 +3,9 @@
 
 mod bench;
 mod call;
+mod key;
 
-use bench::replay;
+use bench::run::replay;
 use std::io::{Read, Write};
 use std::process::ExitCode;
 use std::{env, io};

@@ -25,4 +25,12 @@ row_otherwise word name here rest answer b e =
       | false ↦ λ f. e
     ]) refl
 
-pub ruleset row_read = (row_here, row_later, row_otherwise)
+-- or it does so at its second byte
+pub row_second : {A : Type 0} (word name : Bytes) (here rest answer : Option A) → get_or word 1 0 ≢ get_or name 1 0 → answer ≡ rest → answer ≡ cond (bytes_eq word name) here rest
+row_second word name here rest answer b e =
+    (elim (bytes_eq word name) as (λ v. bytes_eq word name ≡ v → answer ≡ cond v here rest) [
+      | true ↦ λ t. absurd (b (ap (λ w. get_or w 1 0) ((bytes_eq-Decides word name).0 t)))
+      | false ↦ λ f. e
+    ]) refl
+
+pub ruleset row_read = (row_here, row_later, row_otherwise, row_second)

@@ -1,5 +1,5 @@
 -- Bytes as lower-case hex, and no bytes as `-`. Assumes nothing.
-use Rattle.std.specs.Prelude.{ℕ, ◌+◌, ◌-◌, ◌*◌, ◌/◌, ◌%◌, cond, ◌&&◌, [], ◌∷◌, Some, None, Option, ◌==◌, nat_le, nat_lt}
+use Rattle.std.specs.Prelude.{ℕ, ◌+◌, ◌-◌, ◌*◌, ◌/◌, ◌%◌, cond, ◌&&◌, [], ◌∷◌, length, Some, None, Option, ◌==◌, nat_le, nat_lt}
 use Rattle.std.specs.Option.{option_map}
 use Rattle.scripts.specs.Words.{Bytes, is_digit}
 
@@ -50,3 +50,11 @@ hex_text (b ∷ bs) = pairs_text (b ∷ bs)
 abbrev pub bytes_in : Option Bytes → Option Bytes
 bytes_in None = None
 bytes_in (Some word) = hex_bytes word
+
+abbrev pub of_length : ℕ → Option Bytes → Option Bytes
+of_length n None = None
+of_length n (Some bs) = cond (length bs == n) (Some bs) None
+
+-- so many bytes
+abbrev pub array_of : ℕ → Bytes → Option Bytes
+array_of n word = of_length n (hex_bytes word)

@@ -1,6 +1,6 @@
 // Bytes as lower-case hex, and no bytes as `-`.
 ghost use Rattle.std.specs.Prelude.{◌≡◌, ◌++◌, ◌<◌, Some, IfSome, OnOk, string_bytes, vec_items};
-ghost use Rattle.scripts.specs.Hex.{hex_value, pair_value, pairs_bytes, hex_bytes, pair_text, hex_text};
+ghost use Rattle.scripts.specs.Hex.{hex_value, pair_value, pairs_bytes, hex_bytes, array_of, pair_text, hex_text};
 ghost use Rattle.scripts.specs.Reading.{Reads};
 
 use crate::error::ParseError;
@@ -20,6 +20,14 @@ pub fn decode_hex(alloc: Global, word: &[u8]) -> Result<Vec<u8>, ParseError>
         return Err(ParseError::NotUnderstood);
     }
     decode_pairs(alloc, word)
+}
+
+// The bytes that a hex word stands for, if there are so many.
+pub fn decode_array<const N: usize>(alloc: Global, word: &[u8]) -> Result<[u8; N], ParseError>
+    ensures { Reads (λ bytes. bytes) (array_of N word.now) result }
+{
+    let bytes = decode_hex(alloc, word)?;
+    <[u8; N]>::try_from(bytes.as_slice()).map_err(|_| ParseError::NotUnderstood)
 }
 
 fn decode_pairs(alloc: Global, word: &[u8]) -> Result<Vec<u8>, ParseError>

@@ -6,5 +6,5 @@ mod hex;
 mod words;
 
 pub use error::ParseError;
-pub use hex::{Hex, decode_hex, push_hex};
+pub use hex::{Hex, decode_array, decode_hex, push_hex};
 pub use words::{Words, is_silent, parse_number, split_word};

@@ -56,6 +56,14 @@ impl<'a> Words<'a> {
         self.left.ok_or(ParseError::NotUnderstood)
     }
 
+    // All that is left, if anything is.
+    pub fn rest(self) -> Option<&'a [u8]>
+        ensures { option_map (λ w. w.now) result ≡ self.entry }
+    {
+        let Words { left } = self;
+        left
+    }
+
     // No word is left.
     pub fn end(self) -> Result<(), ParseError>
         ensures { result ≡ ok_or (alone tt self.entry) NotUnderstood }

@@ -1,2 +1,3 @@
+pub mod Algorithms
 pub mod Names
 pub mod Texts

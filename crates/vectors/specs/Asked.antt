@@ -4,8 +4,8 @@ use Rattle.std.specs.List.{flat_map}
 use Rattle.std.specs.Option.{option_map}
 use Rattle.digests.specs.Hmac.{hmac_of}
 use Rattle.scripts.specs.Words.{Bytes, first_word, behind_word, number_of}
-use Rattle.scripts.specs.Hex.{both, bytes_in}
-use Rattle.vectors.specs.Pieced.{words_pieces, repeated, array_of}
+use Rattle.scripts.specs.Hex.{both, bytes_in, array_of}
+use Rattle.vectors.specs.Pieced.{words_pieces, repeated}
 use Rattle.vectors.specs.declared.digest.Question.{Question}
 use Rattle.vectors.specs.declared.digest.Question.TheVariants.{Digest, Hmac, Repeat}
 

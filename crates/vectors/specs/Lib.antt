@@ -1,5 +1,4 @@
 pub mod Pieced
-pub mod Algorithms
 pub mod Asked
 pub mod Families
 pub mod Tags

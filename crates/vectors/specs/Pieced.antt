@@ -1,5 +1,5 @@
 -- Bytes in pieces, as words of a line say them. Assumes nothing.
-use Rattle.std.specs.Prelude.{ℕ, cond, List, [], ◌∷◌, map, length, replicate, Some, None, vec_items, Option, Vec, ◌==◌}
+use Rattle.std.specs.Prelude.{ℕ, List, [], ◌∷◌, map, replicate, Some, vec_items, Option, Vec}
 use Rattle.std.specs.List.{flat_map}
 use Rattle.std.specs.declared.alloc.Global.{Global}
 use Rattle.scripts.specs.Words.{Bytes}
@@ -21,11 +21,3 @@ words_pieces words = all_hex (parts_behind 32 [] words)
 -- the same bytes so many times
 unfoldable pub repeated : ℕ → Bytes → Bytes
 repeated count piece = flat_map (λ p. p) (replicate count piece)
-
-abbrev pub of_length : ℕ → Option Bytes → Option Bytes
-of_length n None = None
-of_length n (Some bs) = cond (length bs == n) (Some bs) None
-
--- so many bytes
-abbrev pub array_of : ℕ → Bytes → Option Bytes
-array_of n word = of_length n (hex_bytes word)

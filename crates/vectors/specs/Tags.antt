@@ -10,8 +10,8 @@ use Rattle.scripts.specs.Words.{Bytes, number_of}
 use Rattle.scripts.specs.Hex.{hex_bytes, hex_text}
 use Rattle.scripts.specs.Reading.{next_as, last_as}
 use Rattle.told.specs.Texts.{text_of}
-use Rattle.vectors.specs.Algorithms.{algorithm_of, digest_by}
-use Rattle.vectors.specs.Pieced.{array_of}
+use Rattle.told.specs.Algorithms.{algorithm_of, digest_by}
+use Rattle.scripts.specs.Hex.{array_of}
 use Rattle.vectors.specs.declared.tag.Signed.{Signed}
 
 -- the number that a key draws, a tag under it, and how many numbers are left then

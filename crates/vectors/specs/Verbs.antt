@@ -3,12 +3,12 @@ use Rattle.std.specs.Prelude.{[], ◌∷◌, Some, None, codes, Option}
 use Rattle.std.specs.Option.{option_map}
 use Rattle.scripts.specs.Words.{Bytes, first_word, behind_word, entry_at}
 use Rattle.scripts.specs.Hex.{hex_text}
-use Rattle.vectors.specs.Algorithms.{digest_by}
+use Rattle.told.specs.Algorithms.{digest_by}
 use Rattle.vectors.specs.Asked.{question_answer}
 use Rattle.vectors.specs.Families.{family_answer, rows_answer, choice_answer}
 use Rattle.vectors.specs.Tags.{tag_answer, inspect_answer}
 use Rattle.vectors.specs.declared.digest.Question.TheVariants as questions
-use Rattle.vectors.specs.declared.algorithm.Algorithm.TheVariants.{Sha256, Blake2s}
+use Rattle.told.specs.declared.algorithm.Algorithm.TheVariants.{Sha256, Blake2s}
 use Rattle.vectors.specs.declared.verb.Verb.{Verb}
 use Rattle.vectors.specs.declared.verb.Verb.TheVariants.{Digest, Family, Rows, Choose, Tag, Inspect}
 

@@ -5,9 +5,9 @@ ghost use Rattle.scripts.specs.Hex.{hex_text};
 ghost use Rattle.scripts.specs.Reading.{Reads};
 ghost use Rattle.vectors.specs.Asked.{question_answer};
 
-use crate::pieces::{decode_array, decode_words, digest_repeated};
+use crate::pieces::{decode_words, digest_repeated};
 use digests::{Digest, digest_of, hmac};
-use scripts::{ParseError, Words, decode_hex, parse_number, push_hex};
+use scripts::{ParseError, Words, decode_array, decode_hex, parse_number, push_hex};
 use std::alloc::Global;
 
 // How often a piece can be repeated.

@@ -1,7 +1,6 @@
 // Prints what digests, HMACs, families and tag keys answer to the lines of standard input, for test vectors.
 #![tactic(auto)]
 
-mod algorithm;
 mod digest;
 mod family;
 mod lines;

@@ -1,7 +1,7 @@
 // Bytes in pieces, from hex words to a digest.
 ghost use Rattle.std.specs.Prelude.{◌≡◌};
 ghost use Rattle.scripts.specs.Reading.{Reads};
-ghost use Rattle.vectors.specs.Pieced.{array_of, pieces_in, words_pieces, repeated};
+ghost use Rattle.vectors.specs.Pieced.{pieces_in, words_pieces, repeated};
 
 use digests::Digest;
 use scripts::{ParseError, decode_hex};
@@ -28,12 +28,4 @@ pub fn decode_words(alloc: Global, words: &[u8]) -> Result<Vec<Vec<u8>>, ParseEr
         pieces.push(decode_hex(alloc, word)?)?;
     }
     Ok(pieces)
-}
-
-// The bytes that a hex word stands for, if there are so many.
-pub fn decode_array<const N: usize>(alloc: Global, word: &[u8]) -> Result<[u8; N], ParseError>
-    ensures { Reads (λ bytes. bytes) (array_of N word.now) result }
-{
-    let bytes = decode_hex(alloc, word)?;
-    <[u8; N]>::try_from(bytes.as_slice()).map_err(|_| ParseError::NotUnderstood)
 }

@@ -3,19 +3,18 @@ ghost use Rattle.std.specs.Prelude.{◌≡◌, Some, IfOk, string_bytes};
 ghost use Rattle.scripts.specs.Reading.{Reads};
 ghost use Rattle.told.specs.Texts.{text_of};
 ghost use Rattle.keys.specs.Tag.{tag_says};
-ghost use Rattle.vectors.specs.Algorithms.{digest_by};
+ghost use Rattle.told.specs.Algorithms.{digest_by};
 ghost use Rattle.vectors.specs.Tags.{signed_answer, signed_text, tag_answer, says_text, inspect_answer};
 
-use crate::algorithm::Algorithm;
-use crate::pieces::decode_array;
 use answers::Refusal;
 use blake2s::Blake2s;
 use digests::Digest;
 use keys::{Inspector, Sealer, TagInspector, TagKey, sign_next};
-use scripts::{Hex, ParseError, Words, decode_hex, parse_number};
+use scripts::{Hex, ParseError, Words, decode_array, decode_hex, parse_number};
 use sha256::Sha256;
 use std::alloc::{AllocError, Global};
 use std::fmt;
+use told::Algorithm;
 
 // The number that a key drew, the tag under it, and how many numbers were left then.
 #[derive(Clone, Copy)]

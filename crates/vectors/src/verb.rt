@@ -3,7 +3,6 @@ ghost use Rattle.std.specs.Prelude.{◌≡◌, string_bytes};
 ghost use Rattle.scripts.specs.Reading.{Reads};
 ghost use Rattle.vectors.specs.Verbs.{verb_of, verb_answer, line_answer};
 
-use crate::algorithm::Algorithm;
 use crate::digest::Question;
 use crate::family::{answer_choice, answer_family, answer_rows};
 use crate::tag::{answer_inspect, answer_tag};
@@ -11,6 +10,7 @@ use blake2s::Blake2s;
 use scripts::{ParseError, Words};
 use sha256::Sha256;
 use std::alloc::Global;
+use told::Algorithm;
 
 #[derive(Clone, Copy)]
 enum Verb {

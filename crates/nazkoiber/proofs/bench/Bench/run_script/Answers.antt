@@ -1,9 +1,9 @@
 use Rattle.std.proofs.Common.{◌≡◌, rules, List, [], ◌∷◌, ◌++◌, vec_items, sym, refl, ap, ◌∙◌, append_assoc}
-use Rattle.std.proofs.lemmas.List.{append-nil}
 use Rattle.scripts.specs.Words.{Bytes}
 use Rattle.scripts.specs.Lines.{parts_behind}
 use Rattle.scripts.proofs.LineLemmas.{yields_parts, yields_more, yields_end}
-use Rattle.nazkoiber.specs.Answering.{blocks, line_text, line_after, lines_text, script_text}
+use Rattle.nazkoiber.specs.State.{State, state}
+use Rattle.nazkoiber.specs.Answering.{line_text, line_after, lines_text, script_text}
 use Rattle.nazkoiber.proofs.bench.Bench.run_script.Goals as goal
 
 pub loop-line-init : goal.loop-line-init
@@ -15,10 +15,10 @@ loop-line-init c =
       refl,
     )
 
-line_more : (lines rest : List Bytes) (line old new all : Bytes) (bs next : List Bytes)
-    → lines ≡ line ∷ rest → new ≡ old ++ line_text line bs → next ≡ line_after line bs → old ++ lines_text lines bs ≡ all → new ++ lines_text rest next ≡ all
+line_more : (lines rest : List Bytes) (line old new all : Bytes) (s next : State)
+    → lines ≡ line ∷ rest → new ≡ old ++ line_text line s → next ≡ line_after line s → old ++ lines_text lines s ≡ all → new ++ lines_text rest next ≡ all
 unfolding lines_text
-line_more lines rest line old new all bs next l n a e = rw (n, a, append_assoc) (ap (λ ls. old ++ lines_text ls bs) (sym l) ∙ e)
+line_more lines rest line old new all s next l n a e = rw (n, a, append_assoc) (ap (λ ls. old ++ lines_text ls s) (sym l) ∙ e)
 
 pub loop-line-preserved : goal.loop-line-preserved
 loop-line-preserved c =
@@ -32,4 +32,4 @@ pub returns : goal.returns
 unfolding lines_text
 returns c =
     let none = yields_end c.loop-line.invariant.0 c.loop-line.invariant.1 c.in-None.ensures.steps in
-    sym (append-nil (vec_items c.loop-line.out)) ∙ ap (λ ls. vec_items c.loop-line.out ++ lines_text ls (blocks c.loop-line.self)) (sym none) ∙ c.loop-line.invariant.2
+    ap (λ ls. vec_items c.loop-line.out ++ lines_text ls (state c.loop-line.self)) (sym none) ∙ c.loop-line.invariant.2

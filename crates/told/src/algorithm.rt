@@ -1,6 +1,6 @@
 // The digests by their names.
 ghost use Rattle.std.specs.Prelude.{◌≡◌};
-ghost use Rattle.vectors.specs.Algorithms.{algorithm_of};
+ghost use Rattle.told.specs.Algorithms.{algorithm_of};
 
 #[derive(Clone, Copy)]
 pub enum Algorithm {

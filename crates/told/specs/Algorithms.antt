@@ -3,8 +3,8 @@ use Rattle.std.specs.Prelude.{[], ◌∷◌, codes, Option}
 use Rattle.blake2s.specs.Blake2s.{blake2s}
 use Rattle.scripts.specs.Words.{Bytes, entry_at}
 use Rattle.sha256.specs.Sha256.{sha256_of}
-use Rattle.vectors.specs.declared.algorithm.Algorithm.{Algorithm}
-use Rattle.vectors.specs.declared.algorithm.Algorithm.TheVariants.{Sha256, Blake2s}
+use Rattle.told.specs.declared.algorithm.Algorithm.{Algorithm}
+use Rattle.told.specs.declared.algorithm.Algorithm.TheVariants.{Sha256, Blake2s}
 
 abbrev pub algorithm_of : Bytes → Option Algorithm
 algorithm_of = entry_at ((codes "sha256", Sha256) ∷ ((codes "blake2s", Blake2s) ∷ []))

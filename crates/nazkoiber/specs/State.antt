@@ -1,0 +1,91 @@
+-- What the calls of a script work on. Assumes nothing.
+use Rattle.std.specs.Prelude.{ℕ, Bool, false, List, [], Some, None, vec_items, Option}
+use Rattle.std.specs.Option.{option_map}
+use Rattle.families.specs.Any.{any_shape}
+use Rattle.families.specs.Shape.{Shape}
+use Rattle.keys.specs.Key.{Key}
+use Rattle.scripts.specs.Words.{Bytes}
+use Rattle.seals.specs.Scheme.{Scheme, scheme}
+use Rattle.sheets.specs.Blocks.{blocks_of}
+use Rattle.told.specs.Algorithms.{digest_by}
+use Rattle.told.specs.declared.algorithm.Algorithm.{Algorithm}
+use Rattle.told.specs.declared.algorithm.Algorithm.TheVariants.{Sha256, Blake2s}
+use Rattle.nazkoiber.specs.Keys.{key_kind, key_says, key_of, key_signature}
+use Rattle.nazkoiber.specs.declared.key.AnyKey.{AnyKey}
+use Rattle.nazkoiber.specs.declared.bench.Bench.{Bench}
+
+-- a key that is at hand: what it says to signatures, what it signs, and its numbers
+pub record Held : Type 0 where
+  pub kind : ℕ
+  pub says : ℕ → Bytes → Bytes → Bool
+  pub signature : ℕ → Bytes → Bytes
+  pub key : Key
+
+abbrev pub held : AnyKey → Held
+held k = record { kind = key_kind k; says = key_says k; signature = key_signature k; key = key_of k }
+
+pub record State : Type 0 where
+  pub blocks : List Bytes
+  pub digest : Algorithm
+  pub family : Option Shape
+  pub key : Option Held
+  -- a number that was drawn, behind the name of the key that drew it
+  pub hand : Option (Bytes × ℕ)
+  pub part : Option Bytes
+  -- whether the present seal part is accepted
+  pub accepted : Bool
+
+-- what a script begins with
+abbrev pub start : State
+start = record { blocks = []; digest = Sha256; family = None; key = None; hand = None; part = None; accepted = false }
+
+abbrev pub state : Bench → State
+state b =
+    record {
+      blocks = blocks_of b.sheet;
+      digest = b.digest;
+      family = option_map any_shape b.family;
+      key = option_map held b.key;
+      hand = option_map (λ d. (d.key, d.number)) b.hand;
+      part = option_map vec_items b.part;
+      accepted = b.accepted;
+    }
+
+-- the state with one thing exchanged
+abbrev pub with_blocks : State → List Bytes → State
+with_blocks s blocks =
+    record { blocks = blocks; digest = s.digest; family = s.family; key = s.key; hand = s.hand; part = s.part; accepted = s.accepted }
+
+abbrev pub with_digest : State → Algorithm → State
+with_digest s digest =
+    record { blocks = s.blocks; digest = digest; family = s.family; key = s.key; hand = s.hand; part = s.part; accepted = s.accepted }
+
+abbrev pub with_family : State → Shape → State
+with_family s family =
+    record { blocks = s.blocks; digest = s.digest; family = Some family; key = s.key; hand = s.hand; part = s.part; accepted = s.accepted }
+
+-- another key takes the acceptance back
+abbrev pub with_key : State → Held → State
+with_key s key =
+    record { blocks = s.blocks; digest = s.digest; family = s.family; key = Some key; hand = s.hand; part = s.part; accepted = false }
+
+-- so does another seal part, or none
+abbrev pub with_part : State → Option Bytes → State
+with_part s part =
+    record { blocks = s.blocks; digest = s.digest; family = s.family; key = s.key; hand = s.hand; part = part; accepted = false }
+
+abbrev pub with_hand : State → Option Held → Option (Bytes × ℕ) → State
+with_hand s key hand =
+    record { blocks = s.blocks; digest = s.digest; family = s.family; key = key; hand = hand; part = s.part; accepted = s.accepted }
+
+abbrev pub with_acceptance : State → Bool → State
+with_acceptance s accepted =
+    record { blocks = s.blocks; digest = s.digest; family = s.family; key = s.key; hand = s.hand; part = s.part; accepted = accepted }
+
+-- the number by which a seal names a digest
+abbrev pub digest_kind : Algorithm → ℕ
+digest_kind Sha256 = 1
+digest_kind Blake2s = 2
+
+abbrev pub scheme_by : Algorithm → Shape → Scheme
+scheme_by algorithm family = scheme (digest_by algorithm) (digest_kind algorithm) family
