@@ -4,17 +4,17 @@ use Rattle.digests.specs.Strings.{Bytes, same}
 use Rattle.families.specs.Numbers.{numbers, keep_where, any_of}
 use Rattle.families.specs.Choice.{first_fit}
 use Rattle.families.specs.Lawful.{plane_lawful}
-use Rattle.seals.specs.Images.{framed_blocks, row_image, whole_image}
+use Rattle.seals.specs.Images.{framed_blocks, row_image, whole_image, row_rest}
 use Rattle.seals.specs.Part.{word, row_digest, whole_digest, digests_of_rows, seal_head, text_to_sign, seal_part}
-use Rattle.seals.specs.Calls.{same_family, same_scheme, same_count, passes, agrees, suspect, suspects, check_before, check_answer}
-use Rattle.seals.specs.Law.{answer, after, after_all, events, rewritten_to, standing, is_changed, changed, compares, image_of}
-use Rattle.seals.specs.Cases.{rows_with, as_number, small_digest, plane, yes, one_byte_blocks, plane_sheet, plane_part, spoil, checked, failing, cases, WorkedCases, NotEmpty}
+use Rattle.seals.specs.Calls.{same_family, same_scheme, same_count, passes, agrees, suspect, suspects, check_before, check_answer, vouching, vouch_before, vouch_answer, excerpt_answer, unframed, all_short, rest_blocks, is_excerpt, confirm_before, confirm_answer}
+use Rattle.seals.specs.Law.{up_to_first, rows_of, answer, after, after_all, events, rewritten_to, standing, is_changed, changed, compares, image_of}
+use Rattle.seals.specs.Cases.{as_number, small_digest, plane, yes, one_byte_blocks, plane_sheet, plane_part, spoil, asked, failing, cases, beside_eight, WorkedCases, NotEmpty}
 use Rattle.seals.proofs.Established.{Written}
 use Rattle.seals.proofs.Answers.{same_true, same_refl}
 use Rattle.seals.proofs.Promises.{sealed_promises}
 
 pub worked_cases : WorkedCases
-unfolding framed_blocks row_image whole_image numbers keep_where any_of row_digest whole_digest word same_family same_scheme same_count check_before passes agrees suspect suspects check_answer answer after after_all digests_of_rows seal_head text_to_sign seal_part first_fit rows_with as_number small_digest plane yes one_byte_blocks plane_sheet plane_part spoil checked failing cases
+unfolding framed_blocks row_image whole_image numbers keep_where any_of row_digest whole_digest word same_family same_scheme same_count check_before passes agrees suspect suspects check_answer answer after after_all digests_of_rows seal_head text_to_sign seal_part first_fit rows_of as_number small_digest plane yes one_byte_blocks plane_sheet plane_part spoil asked failing cases
 worked_cases =
     (refl, (refl, (refl, (refl, (refl, (refl, (refl, (refl, (refl, (refl, (refl, (refl, (refl, (refl, (refl, (refl, (refl, (refl, (refl, (refl, (refl, tt)))))))))))))))))))))
 
@@ -38,11 +38,18 @@ plane_written =
     }
 
 pub not_empty : NotEmpty
-unfolding framed_blocks row_image whole_image numbers keep_where any_of row_digest whole_digest word same_family same_scheme same_count check_before passes agrees suspect suspects check_answer answer after after_all events rewritten_to standing is_changed changed compares image_of digests_of_rows seal_head text_to_sign seal_part as_number small_digest plane yes one_byte_blocks plane_sheet plane_part spoil checked
+unfolding framed_blocks row_image whole_image numbers keep_where any_of row_digest whole_digest word same_family same_scheme same_count check_before passes agrees suspect suspects check_answer answer after after_all events rewritten_to standing is_changed changed compares image_of digests_of_rows seal_head text_to_sign seal_part as_number small_digest plane yes one_byte_blocks plane_sheet plane_part spoil asked beside_eight row_rest vouching vouch_before vouch_answer up_to_first rows_of excerpt_answer unframed all_short rest_blocks is_excerpt confirm_before confirm_answer
 not_empty =
     record {
       promised = sealed_promises plane yes 70000 plane_sheet [] plane_written;
       clear = (no_clash_by _ _ refl, (no_clash_by _ _ refl, (no_clash_by _ _ refl, (no_clash_by _ _ refl, (no_clash_by _ _ refl, (no_clash_by _ _ refl, (no_clash_by _ _ refl, (no_clash_by _ _ refl, (no_clash_by _ _ refl, (no_clash_by _ _ refl, tt))))))))));
       one_changed = refl;
       one_named = refl;
+      vouch_clear = (no_clash_by _ _ refl, tt);
+      one_vouched = refl;
+      one_excerpted = refl;
+      confirm_clear = (no_clash_by _ _ refl, tt);
+      one_confirmed = refl;
+      three_clear = (no_clash_by _ _ refl, (no_clash_by _ _ refl, (no_clash_by _ _ refl, (no_clash_by _ _ refl, (no_clash_by _ _ refl, (no_clash_by _ _ refl, (no_clash_by _ _ refl, (no_clash_by _ _ refl, (no_clash_by _ _ refl, (no_clash_by _ _ refl, tt))))))))));
+      three_refused = (refl, refl);
     }

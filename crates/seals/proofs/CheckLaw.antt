@@ -158,6 +158,23 @@ module _ (s : Scheme) (own : Inspection) (part : Bytes) (sealed : List Bytes) (h
           ap (λ z. s.family.holds i j && z)
           (row_passes_untouched i at.0 (omega (arith, at.1)) (clear_at s sealed (after_all sealed cs) (numbers 1 s.family.rows) c.1 i b)))))
 
+  -- where a check with room meets no clash, a row fails exactly if it holds a changed block: the check compares every row, or no block is changed
+  pub check_fails : (room : ℕ) → min s.family.strength s.family.blocks ≤ room → Clear s own part sealed cs (check room)
+      → (i : ℕ) → 1 ≤ i → i ≤ s.family.rows → not (passes s part (after_all sealed cs) i) ≡ touches s.family.holds (changed s own part sealed cs) i
+  unfolding Compared
+  check_fails room r clear i p q = go (agrees s part (after_all sealed cs)) refl (compared room r clear)
+    where
+      go : (t : Bool) → agrees s part (after_all sealed cs) ≡ t → Compared t
+          → not (passes s part (after_all sealed cs) i) ≡ touches s.family.holds (changed s own part sealed cs) i
+      go true e c =
+          let none : touches s.family.holds (changed s own part sealed cs) i ≡ false = rw (whole_unchanged c e) refl in
+          ap not (row_passes s own part sealed h (after_all sealed cs) i p q now_count (untouched_same i none)) ∙ sym none
+      go false e c = row_fails i p q (clear_at s sealed (after_all sealed cs) (numbers 1 s.family.rows) c.1 i (has_number 1 s.family.rows i p (omega arith)))
+
+  pub check_suspects : (room : ℕ) → min s.family.strength s.family.blocks ≤ room → Clear s own part sealed cs (check room)
+      → suspects s part (after_all sealed cs) ≡ unclear s own part sealed cs
+  check_suspects room r clear = suspects_unclear (compared room r clear)
+
   -- what a check answers: the changed blocks, or how many suspects there are
   pub check_names : (room : ℕ) → min s.family.strength s.family.blocks ≤ room → Clear s own part sealed cs (check room)
       → length (changed s own part sealed cs) ≤ s.family.strength → reply s own part sealed cs (check room) ≡ Ok (named (changed s own part sealed cs))

@@ -10,18 +10,7 @@ use Rattle.sheets.specs.Table.{max_bytes}
 use Rattle.seals.specs.Images.{two_bytes, framed}
 use Rattle.seals.specs.Part.{word}
 use Rattle.seals.specs.Excerpts.{behind_frame}
-
-pub same_refl : (xs : Bytes) → same xs xs ≡ true
-same_refl [] = refl
-same_refl (x ∷ xs) = and_from (x == x) (same xs xs) (eq-eqb x x refl) (same_refl xs)
-
-pub same_true : (xs ys : Bytes) → same xs ys ≡ true → xs ≡ ys
-same_true [] [] e = refl
-same_true [] (y ∷ ys) e = cc
-same_true (x ∷ xs) [] e = cc
-same_true (x ∷ xs) (y ∷ ys) e =
-    let both = and_parts (x == y) (same xs ys) e in
-    ap (λ k. k ∷ xs) (eqb-true x y both.0) ∙ ap (λ k. y ∷ k) (same_true xs ys both.1)
+use Rattle.seals.proofs.Answers.{same_true, same_refl}
 
 -- each is a byte
 abbrev pub Small : Bytes → Type 0

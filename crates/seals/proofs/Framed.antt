@@ -1,10 +1,9 @@
 -- The blocks of a row one after another, framed.
-use Rattle.std.specs.Prelude.{◌≡◌, ℕ, zero, suc, ◌+◌, ◌-◌, ◌<◌, ◌≤◌, Bool, true, false, cond, List, [], ◌∷◌, ◌++◌, length, Some, None, Option, ◌≢◌, slice_index, slice_index_or, slice_set, refl}
+use Rattle.std.specs.Prelude.{◌≡◌, ℕ, zero, suc, ◌+◌, ◌-◌, ◌≤◌, Bool, true, false, List, [], ◌∷◌, ◌++◌, length, Some, None, Option, ◌≢◌, slice_index, refl}
 use Rattle.std.specs.Int.{w16, to_be_bytes}
 use Rattle.std.specs.List.{flat_map}
-use Rattle.std.proofs.Common.{sym, ap, ◌∙◌, subst, inl, inr, arith, get_or, set, append_assoc}
+use Rattle.std.proofs.Common.{sym, ap, ◌∙◌, arith, get_or, append_assoc}
 use Rattle.std.proofs.lemmas.List.{get_or-set_same, get_or-set_other, append-nil, length-set}
-use Rattle.std.proofs.lemmas.Bool.{cases_eq, eqb-true}
 use Rattle.digests.specs.Strings.{Bytes}
 use Rattle.families.specs.Numbers.{numbers, keep_where}
 use Rattle.sheets.specs.declared.sheet.Sheet.{Sheet}
@@ -108,9 +107,9 @@ unfolding frames
 frames_end bs done ms image none e = sym (append-nil done) ∙ ap (λ k. done ++ frames bs k) (sym none) ∙ e
 
 -- a row's first three bytes, and the frames of the blocks that a call looks at
-pub row_start : (f : Shape) (row : ℕ) (v : View) (number : Bytes) → length (blocks_of v.sheet.now) ≡ f.blocks → number ≡ to_be_bytes w16 row
-    → 1 ∷ (slice_index number 0 ∷ (slice_index number 1 ∷ frames (viewed v) (row_list f row))) ≡ row_image f.holds row (viewed v)
-row_start f row v number count e = rw e (row_parts f row (viewed v) (length_viewed v ∙ count))
+pub row_start : (f : Shape) (row : ℕ) (v : View) → length (blocks_of v.sheet.now) ≡ f.blocks
+    → (1 ∷ two_bytes row) ++ frames (viewed v) (row_list f row) ≡ row_image f.holds row (viewed v)
+row_start f row v count = row_parts f row (viewed v) (length_viewed v ∙ count)
 
 -- the whole image's first three bytes
 pub whole_start : (s : Sheet) (count : ℕ) (number : Bytes) (from : ℕ) (left : List Bytes) → count ≡ length (blocks_of s) → number ≡ to_be_bytes w16 count

@@ -15,7 +15,7 @@ use Rattle.seals.specs.Law.Done.{rewritten, accepted, named, vouched, excerpted,
 use Rattle.seals.proofs.Established.{Established}
 use Rattle.seals.proofs.Answers.{never_refused}
 use Rattle.seals.proofs.Rows.{family_alike, count_alike}
-use Rattle.seals.proofs.CheckLaw.{now_count, row_fails, check_names, check_refuses}
+use Rattle.seals.proofs.CheckLaw.{now_count, row_fails, check_fails, check_suspects, check_names, check_refuses}
 use Rattle.seals.proofs.Apart.{failing_fix}
 use Rattle.seals.proofs.VouchLaw.{vouched_sealed, vouch_exact}
 use Rattle.seals.proofs.ConfirmLaw.{confirmed_sealed, excerpt_after}
@@ -86,6 +86,8 @@ promised s own part sealed h =
           subst (RefusesAs 28 (length (unclear s own part sealed cs) ∷ [])) (sym (check_refuses s own part sealed h cs room r c m)) (refl, refl);
       fails = row_fails s own part sealed h;
       finds = failing_fix s own part sealed h;
+      fails_in_check = check_fails s own part sealed h;
+      suspects_unclear = check_suspects s own part sealed h;
       tells_apart = tells_apart s.family.blocks s.family.rows s.family.strength s.family.holds h.lawful.covers;
       vouches = vouch_exact s own part sealed h;
       vouched_is_sealed = vouched_sealed s own part sealed h;

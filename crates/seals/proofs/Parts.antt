@@ -1,5 +1,5 @@
 -- What is known of a seal part that was read as one.
-use Rattle.std.specs.Prelude.{◌≡◌, ℕ, ◌+◌, ◌*◌, ◌≤◌, Bool, true, ◌&&◌, length, take, drop, nat_le, nat_lt, ◌==◌, slice_index}
+use Rattle.std.specs.Prelude.{◌≡◌, ◌+◌, ◌*◌, ◌≤◌, true, length, nat_le, nat_lt, ◌==◌, slice_index}
 use Rattle.std.proofs.Common.{arith}
 use Rattle.std.proofs.lemmas.Bool.{and_parts, eqb-true, leb-true}
 use Rattle.digests.specs.Strings.{Bytes}
@@ -10,9 +10,9 @@ module _ (b : Bytes) (formed : is_seal_part b ≡ true) where
   unfolding is_seal_part
   counts = (and_parts (to_512 (part_blocks b)) _ formed).0
 
-  pub part_long : text_length b + 2 ≤ length b
+  pub part_length : length b ≡ 50 + (32 * part_rows b + word b (text_length b))
   unfolding is_seal_part
-  part_long =
+  part_length =
       let e1 = (and_parts (to_512 (part_blocks b)) _ formed).1 in
       let e2 = (and_parts (to_512 (part_rows b)) _ e1).1 in
       let e3 = (and_parts (to_512 (part_strength b)) _ e2).1 in
@@ -20,8 +20,10 @@ module _ (b : Bytes) (formed : is_seal_part b ≡ true) where
       let e5 = (and_parts (nat_lt 0 (part_digest_kind b)) _ e4).1 in
       let e6 = (and_parts (nat_lt 0 (part_sealer_kind b)) _ e5).1 in
       let e7 = (and_parts (slice_index b 7 == 0) _ e6).1 in
-      let long = eqb-true (length b) (50 + (32 * part_rows b + word b (text_length b))) e7 in
-      omega (arith, long)
+      eqb-true (length b) (50 + (32 * part_rows b + word b (text_length b))) e7
+
+  pub part_long : text_length b + 2 ≤ length b
+  part_long = omega (arith, part_length)
 
   pub part_head : 50 ≤ length b
   part_head = omega (arith, part_long)

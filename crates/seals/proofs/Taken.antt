@@ -14,7 +14,8 @@ use Rattle.seals.specs.Images.{two_bytes, framed, framed_blocks, row_image, row_
 use Rattle.seals.specs.Part.{word}
 use Rattle.seals.specs.Calls.{unframed, all_short, rest_blocks, is_excerpt}
 use Rattle.seals.specs.Excerpts.{behind_frame, image_around, OwnPlace}
-use Rattle.seals.proofs.FirstFrame.{Small, Begun, has_frame, first_block, behind, same_true, small_behind, begun, framed_test, begins, some_behind}
+use Rattle.seals.proofs.Answers.{same_true}
+use Rattle.seals.proofs.FirstFrame.{Small, Begun, has_frame, first_block, behind, small_behind, begun, framed_test, begins, some_behind}
 
 -- The place of block j's own frame among those of the blocks ms, of which e has the others': `place` if it has been passed.
 -- None if e is not exactly those frames. e ends a string of `total` bytes.

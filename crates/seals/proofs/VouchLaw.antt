@@ -59,7 +59,7 @@ module _ (s : Scheme) (own : Inspection) (part : Bytes) where
 
   -- the row that was found holds the block, passes with the offered bytes, and was compared
   pub found_row : (bs : List Bytes) (j : ℕ) (v : Bytes) (i n : ℕ) → Found bs j v i n
-      → (s.family.holds i j ≡ true) × (passes s part (with_block bs j v) i ≡ true) × (has i (up_to_first (passes s part (with_block bs j v)) (rows_of s j)) ≡ true)
+      → (s.family.holds i j ≡ true) × (passes s part (with_block bs j v) i ≡ true) × (has i (up_to_first (passes s part (with_block bs j v)) (rows_of s.family j)) ≡ true)
   unfolding vouching rows_of
   found_row bs j v i n f =
       rw f.row at (first_kept (λ i. s.family.holds i j) (passes s part (with_block bs j v)) (numbers 1 s.family.rows) f.some)
@@ -74,7 +74,7 @@ module _ (s : Scheme) (own : Inspection) (part : Bytes) (sealed : List Bytes) (h
       let f = vouch_found s own part bs j v i n e in
       let r = found_row s own part bs j v i n f in
       let at = h.lawful.inside i j r.0 in
-      let clear_rows : NoClash s sealed (rows_of_sheet (with_block bs j v) (up_to_first (passes s part (with_block bs j v)) (rows_of s j)))
+      let clear_rows : NoClash s sealed (rows_of_sheet (with_block bs j v) (up_to_first (passes s part (with_block bs j v)) (rows_of s.family j)))
       = rw (f.reached, compares) at clear in
       sym (block_with_same bs j v f.from_one f.to_count)
       ∙ row_sealed s own part sealed h (with_block bs j v) i at.0 at.1 (length_with bs j v ∙ now_count s own part sealed h cs)

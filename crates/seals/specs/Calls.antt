@@ -126,6 +126,7 @@ unframed keep m (suc count) e =
       | false ↦ [] ∷ unframed keep (suc m) count e
     ]
 
+-- each block is at most as long as a sheet
 unfoldable pub all_short : List Bytes → Bool
 all_short [] = true
 all_short (b ∷ bs) = nat_le (length b) max_bytes && all_short bs

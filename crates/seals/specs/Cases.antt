@@ -1,5 +1,5 @@
 -- Worked cases; the seals are under a small digest that sees its whole input. Assumes nothing.
-use Rattle.std.specs.Prelude.{◌≡◌, ℕ, ◌+◌, ◌*◌, true, not, List, [], ◌∷◌, take, replicate, Ok, Err, Result}
+use Rattle.std.specs.Prelude.{◌≡◌, ℕ, ◌+◌, ◌*◌, true, not, List, [], ◌∷◌, ◌++◌, take, replicate, Ok, Err, Result}
 use Rattle.std.specs.List.{AllByRecursion, flat_map}
 use Rattle.answers.specs.declared.Refusal.{Refusal}
 use Rattle.answers.specs.Refusals.{number_of, values_of}
@@ -12,17 +12,13 @@ use Rattle.families.specs.Single.{single_holds}
 use Rattle.families.specs.Halves.{halves_shape}
 use Rattle.families.specs.Plane.{plane_shape}
 use Rattle.families.specs.Choice.{numbered_shape, choose_answer}
-use Rattle.seals.specs.Images.{row_image, whole_image}
+use Rattle.seals.specs.Images.{framed, row_image, whole_image}
 use Rattle.seals.specs.Scheme.{Scheme, Inspection, scheme, inspection}
 use Rattle.seals.specs.Part.{seal_part}
 use Rattle.seals.specs.Calls.{passes, suspects}
-use Rattle.seals.specs.Law.{Call, Answer, after_all, changed, reply, Clear, Promised}
-use Rattle.seals.specs.Law.Call.{rewrite, check}
+use Rattle.seals.specs.Law.{Call, Answer, after_all, RefusesAs, rows_of, changed, reply, Clear, Promised}
+use Rattle.seals.specs.Law.Call.{rewrite, check, vouch, excerpt, confirm}
 use Rattle.seals.specs.Law.Done.{named, rewritten, accepted, vouched, excerpted, confirmed}
-
--- the rows of a family that hold block j, rising
-unfoldable pub rows_with : Shape → ℕ → List ℕ
-rows_with f j = keep_where (λ i. f.holds i j) (numbers 1 f.rows)
 
 -- kind, q and k of a family, or the number of a refusal
 abbrev pub told : Result Shape Refusal → List ℕ
@@ -34,6 +30,7 @@ unfoldable pub as_number : Bytes → ℕ
 as_number [] = 0
 as_number (b ∷ bs) = b + 1 + 257 * as_number bs
 
+-- that number, and as many zeros as make 32
 unfoldable pub small_digest : Bytes → Bytes
 small_digest b = as_number b ∷ replicate 31 0
 
@@ -54,6 +51,7 @@ one_byte_blocks (x ∷ xs) = (x ∷ []) ∷ one_byte_blocks xs
 unfoldable pub plane_sheet : List Bytes
 plane_sheet = one_byte_blocks (numbers 1 12)
 
+-- its seal part, under number 70000, by a sealer of kind 1 with an empty signature
 unfoldable pub plane_part : Bytes
 plane_part = seal_part plane 1 70000 plane_sheet []
 
@@ -62,9 +60,13 @@ unfoldable pub spoil : List ℕ → List Call
 spoil [] = []
 spoil (j ∷ js) = rewrite j (99 ∷ []) ∷ spoil js
 
+-- what a call answers then
+unfoldable pub asked : List ℕ → Call → Answer
+asked js c = reply plane yes plane_part plane_sheet (spoil js) c
+
 -- what a check answers then
-unfoldable pub checked : List ℕ → Answer
-checked js = reply plane yes plane_part plane_sheet (spoil js) (check 2)
+abbrev pub checked : List ℕ → Answer
+checked js = asked js (check 2)
 
 -- the rows that fail then
 unfoldable pub failing : List ℕ → List ℕ
@@ -94,19 +96,19 @@ cases =
     ∷ (said (checked []), [])
     -- plane, the rows of blocks 1 to 12
     ∷ (
-      flat_map (rows_with (plane_shape 12)) (numbers 1 12),
+      flat_map (rows_of (plane_shape 12)) (numbers 1 12),
       1 ∷ 2 ∷ 3 ∷ 4 ∷ 5 ∷ 6 ∷ 7 ∷ 8 ∷ 9 ∷ 1 ∷ 4 ∷ 7 ∷ 2 ∷ 5 ∷ 8 ∷ 3 ∷ 6 ∷ 9
           ∷ 1 ∷ 5 ∷ 9 ∷ 2 ∷ 6 ∷ 7 ∷ 3 ∷ 4 ∷ 8 ∷ 1 ∷ 6 ∷ 8 ∷ 2 ∷ 4 ∷ 9 ∷ 3 ∷ 5 ∷ 7 ∷ [],
     )
     -- halves: how many rows, and the rows of a block
     ∷ ((halves_shape 6).rows ∷ [], 4 ∷ [])
-    ∷ (rows_with (halves_shape 6) 5, 2 ∷ 4 ∷ [])
+    ∷ (rows_of (halves_shape 6) 5, 2 ∷ 4 ∷ [])
     ∷ ((halves_shape 7).rows ∷ [], 5 ∷ [])
     ∷ ((halves_shape 1).rows ∷ [], 2 ∷ [])
-    ∷ (rows_with (halves_shape 1) 1, 1 ∷ [])
+    ∷ (rows_of (halves_shape 1) 1, 1 ∷ [])
     -- polynomial, q = 5, k = 3
-    ∷ (rows_with (numbered_shape 5 3 125) 9, 4 ∷ 10 ∷ 11 ∷ 17 ∷ 23 ∷ [])
-    ∷ (rows_with (numbered_shape 5 3 125) 26, 1 ∷ 7 ∷ 15 ∷ 20 ∷ 22 ∷ [])
+    ∷ (rows_of (numbered_shape 5 3 125) 9, 4 ∷ 10 ∷ 11 ∷ 17 ∷ 23 ∷ [])
+    ∷ (rows_of (numbered_shape 5 3 125) 26, 1 ∷ 7 ∷ 15 ∷ 20 ∷ 22 ∷ [])
     -- products in the fields of 8 and 16
     ∷ (binary_product 3 0b1011 2 4 ∷ binary_product 3 0b1011 7 7 ∷ binary_product 4 0b10011 2 8 ∷ [], 3 ∷ 3 ∷ 3 ∷ [])
     -- choose
@@ -127,12 +129,26 @@ cases =
     )
     ∷ []
 
+-- each is computed to what it is to be
 abbrev pub WorkedCases : Type 0
 WorkedCases = AllByRecursion {X = List ℕ × List ℕ} (λ c. c.0 ≡ c.1) cases
 
--- What the law assumes can be met: a seal part keeps the promises, and a check that meets no clash names a changed block.
+-- the excerpt of block 8 and row 2: blocks 1, 5 and 11, framed
+unfoldable pub beside_eight : Bytes
+beside_eight = framed 1 (1 ∷ []) ++ (framed 5 (5 ∷ []) ++ framed 11 (11 ∷ []))
+
+-- What the law assumes can be met: a seal part keeps the promises, a check that meets no clash names a changed block, and vouch, excerpt, confirm and a refused check go the same way.
 pub record NotEmpty : Type 0 where
   pub promised : Promised plane yes plane_part plane_sheet
   pub clear : Clear plane yes plane_part plane_sheet (spoil (4 ∷ [])) (check 2)
   pub one_changed : changed plane yes plane_part plane_sheet (spoil (4 ∷ [])) ≡ 4 ∷ []
   pub one_named : checked (4 ∷ []) ≡ Ok (named (4 ∷ []))
+  -- beside the changed block 4, block 8 is vouched for, excerpted and confirmed
+  pub vouch_clear : Clear plane yes plane_part plane_sheet (spoil (4 ∷ [])) (vouch 8 (8 ∷ []))
+  pub one_vouched : asked (4 ∷ []) (vouch 8 (8 ∷ [])) ≡ Ok (vouched 2 15)
+  pub one_excerpted : asked (4 ∷ []) (excerpt 8 2 15) ≡ Ok (excerpted beside_eight)
+  pub confirm_clear : Clear plane yes plane_part plane_sheet (spoil (4 ∷ [])) (confirm 8 2 (8 ∷ []) beside_eight)
+  pub one_confirmed : asked (4 ∷ []) (confirm 8 2 (8 ∷ []) beside_eight) ≡ Ok confirmed
+  -- with three blocks changed, a check that meets no clash is refused, with the count of suspects
+  pub three_clear : Clear plane yes plane_part plane_sheet (spoil (1 ∷ 4 ∷ 7 ∷ [])) (check 2)
+  pub three_refused : RefusesAs 28 (5 ∷ []) (checked (1 ∷ 4 ∷ 7 ∷ []))

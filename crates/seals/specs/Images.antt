@@ -1,5 +1,5 @@
 -- The strings that are digested: framed blocks, row images and the whole image. Assumes nothing.
-use Rattle.std.specs.Prelude.{ℕ, suc, ◌/◌, ◌%◌, Bool, true, cond, not, ◌&&◌, List, [], ◌∷◌, ◌++◌, length, ◌==◌}
+use Rattle.std.specs.Prelude.{ℕ, suc, ◌/◌, ◌%◌, Bool, true, cond, not, ◌&&◌, List, [], ◌∷◌, ◌++◌, length, ◌==◌, nat_le, ◌+◌}
 use Rattle.digests.specs.Strings.{Bytes}
 
 -- a number below 65,536, highest byte first
@@ -26,3 +26,7 @@ whole_image bs = 2 ∷ (two_bytes (length bs) ++ framed_blocks (λ _. true) 1 bs
 -- what stands beside block j in row i
 unfoldable pub row_rest : (ℕ → ℕ → Bool) → ℕ → ℕ → List Bytes → Bytes
 row_rest holds i j bs = framed_blocks (λ m. holds i m && not (m == j)) 1 bs
+
+-- a block of so many bytes can be framed, and fits behind a place of a buffer
+unfoldable pub frame_fits : ℕ → ℕ → ℕ → Bool
+frame_fits place size room = nat_le size 65535 && nat_le (place + 4 + size) room

@@ -1,5 +1,5 @@
 -- What a seal promises of every list of calls that follows it. Assumes nothing.
-use Rattle.std.specs.Prelude.{◌≡◌, ℕ, zero, suc, ◌<◌, ◌≤◌, min, Bool, true, false, cond, not, ◌&&◌, ◌||◌, ◌↔◌, List, [], ◌∷◌, ◌++◌, length, Ok, Err, Result, ◌==◌, ◌≢◌}
+use Rattle.std.specs.Prelude.{◌≡◌, ℕ, ◌<◌, ◌≤◌, min, Bool, true, false, cond, not, ◌&&◌, ◌↔◌, List, [], ◌∷◌, ◌++◌, length, Ok, Err, Result, ◌==◌, ◌≢◌}
 use Rattle.answers.specs.declared.Refusal.{Refusal}
 use Rattle.answers.specs.Refusals.{number_of, values_of}
 use Rattle.digests.specs.Strings.{Bytes, same}
@@ -9,8 +9,9 @@ use Rattle.families.specs.Shape.{Shape}
 use Rattle.sheets.specs.Calls.{block_at, with_block, rewrite_answer}
 use Rattle.seals.specs.Images.{row_image, whole_image, row_rest}
 use Rattle.seals.specs.Scheme.{Scheme, Inspection}
-use Rattle.seals.specs.Calls.{held_back, accept_answer, check_answer, vouch_answer, excerpt_answer, confirm_answer, check_before, vouch_before, confirm_before, rest_blocks, is_excerpt, all_short, agrees, passes}
+use Rattle.seals.specs.Calls.{held_back, accept_answer, check_answer, vouch_answer, excerpt_answer, confirm_answer, check_before, vouch_before, confirm_before, rest_blocks, is_excerpt, all_short, agrees, passes, suspects}
 
+-- a call, with what it is given besides the sheet and the seal part
 pub data Call : Type 0 where
   -- block number, new bytes
   rewrite : ℕ → Bytes → Call
@@ -34,13 +35,16 @@ pub data Done : Type 0 where
   excerpted : Bytes → Done
   confirmed : Done
 
+-- what a call answers: what it has done, or why it is refused
 abbrev pub Answer : Type 0
 Answer = Result Done Refusal
 
+-- an answer, where f says what is done by a call that succeeds
 abbrev pub done_as : {A : Type 0} → (A → Done) → Result A Refusal → Answer
 done_as f (Ok a) = Ok (f a)
 done_as f (Err e) = Err e
 
+-- what a call answers on the sheet bs: for each kind of call the definition that its contract names
 unfoldable pub answer : Scheme → Inspection → Bytes → List Bytes → Call → Answer
 answer s own part bs (rewrite j b) = done_as rewritten (rewrite_answer bs j b)
 answer s own part bs accept = done_as accepted (accept_answer own part)
@@ -58,6 +62,7 @@ after bs (vouch j v) = bs
 after bs (excerpt j i room) = bs
 after bs (confirm j i v e) = bs
 
+-- the sheet after a list of calls, one after another
 unfoldable pub after_all : List Bytes → List Call → List Bytes
 after_all bs [] = bs
 after_all bs (c ∷ cs) = after_all (after bs c) cs
@@ -91,6 +96,7 @@ abbrev pub NoRewrite : List Event → Type 0
 NoRewrite [] = Unit {0}
 NoRewrite (e ∷ es) = ((j n : ℕ) (v : Bytes) → e ≢ (rewrite j v, Ok (rewritten n))) × NoRewrite es
 
+-- an answer that is no refusal
 abbrev pub Succeeds : Answer → Type 0
 Succeeds (Ok a) = Unit {0}
 Succeeds (Err e) = ⊥
@@ -105,14 +111,16 @@ unfoldable pub up_to_first : (ℕ → Bool) → List ℕ → List ℕ
 up_to_first p [] = []
 up_to_first p (x ∷ xs) = x ∷ elim (p x) [ true ↦ [] | false ↦ up_to_first p xs ]
 
-unfoldable pub rows_of : Scheme → ℕ → List ℕ
-rows_of s j = keep_where (λ i. s.family.holds i j) (numbers 1 s.family.rows)
+-- the rows of a family that hold block j, rising
+unfoldable pub rows_of : Shape → ℕ → List ℕ
+rows_of f j = keep_where (λ i. f.holds i j) (numbers 1 f.rows)
 
 -- which of the sealed images: that of the whole, or that of a row
 pub data Image : Type 0 where
   whole : Image
   row : ℕ → Image
 
+-- the image of that name, made of the blocks bs
 unfoldable pub image_of : Scheme → Image → List Bytes → Bytes
 image_of s whole bs = whole_image bs
 image_of s (row i) bs = row_image s.family.holds i bs
@@ -135,7 +143,7 @@ compares s part bs (check room) =
 compares s part bs (vouch j v) =
     elim (held_back (vouch_before s part bs j v)) [
       | true ↦ []
-      | false ↦ rows_of_sheet (with_block bs j v) (up_to_first (passes s part (with_block bs j v)) (rows_of s j))
+      | false ↦ rows_of_sheet (with_block bs j v) (up_to_first (passes s part (with_block bs j v)) (rows_of s.family j))
     ]
 compares s part bs (excerpt j i room) = []
 compares s part bs (confirm j i v e) =
@@ -148,6 +156,7 @@ compares s part bs (confirm j i v e) =
 abbrev pub NotAClash : Scheme → List Bytes → Image → List Bytes → Type 0
 NotAClash s sealed i bs = s.digest (image_of s i bs) ≡ s.digest (image_of s i sealed) → image_of s i bs ≡ image_of s i sealed
 
+-- none of what is compared is a clash
 abbrev pub NoClash : Scheme → List Bytes → List (Image × List Bytes) → Type 0
 NoClash s sealed [] = Unit {0}
 NoClash s sealed (c ∷ cs) = NotAClash s sealed c.0 c.1 × NoClash s sealed cs
@@ -161,6 +170,7 @@ module _ (s : Scheme) (own : Inspection) (part : Bytes) (sealed : List Bytes) wh
   unfoldable pub changed : List Call → List ℕ
   changed cs = keep_where (is_changed cs) (numbers 1 s.family.blocks)
 
+  -- the changed blocks that are not block j, rising
   unfoldable pub changed_beside : ℕ → List Call → List ℕ
   changed_beside j cs = keep_where (λ m. not (m == j)) (changed cs)
 
@@ -184,6 +194,7 @@ module _ (s : Scheme) (own : Inspection) (part : Bytes) (sealed : List Bytes) wh
   abbrev pub Room : ℕ → Type 0
   Room room = min s.family.strength s.family.blocks ≤ room
 
+  -- what a seal promises: each line holds after every list of calls
   pub record Promised : Type 0 where
     -- every accept succeeds
     pub accepts : (cs : List Call) → reply cs accept ≡ Ok (accepted part)
@@ -203,6 +214,11 @@ module _ (s : Scheme) (own : Inspection) (part : Bytes) (sealed : List Bytes) wh
     pub finds : (cs : List Call) → ((i : ℕ) → 1 ≤ i → i ≤ s.family.rows → NotAClash s sealed (row i) (after_all sealed cs))
         → (a : List ℕ) → Rising s.family.blocks 0 a → length a ≤ s.family.strength
         → ((i : ℕ) → 1 ≤ i → i ≤ s.family.rows → touches s.family.holds a i ≡ not (passes s part (after_all sealed cs) i)) → a ≡ changed cs
+    -- where a check with room meets no clash, every row fails exactly if it holds a changed block
+    pub fails_in_check : (cs : List Call) (room : ℕ) → Room room → Clear cs (check room) → (i : ℕ) → 1 ≤ i → i ≤ s.family.rows
+        → not (passes s part (after_all sealed cs) i) ≡ touches s.family.holds (changed cs) i
+    -- and the suspects that the check counts are exactly the unclear blocks
+    pub suspects_unclear : (cs : List Call) (room : ℕ) → Room room → Clear cs (check room) → suspects s part (after_all sealed cs) ≡ unclear cs
     -- no two different sets of at most d blocks touch the same rows
     pub tells_apart : (a b : List ℕ) → Rising s.family.blocks 0 a → Rising s.family.blocks 0 b
         → length a ≤ s.family.strength → length b ≤ s.family.strength → ((i : ℕ) → 1 ≤ i → i ≤ s.family.rows → touches s.family.holds a i ≡ touches s.family.holds b i) → a ≡ b

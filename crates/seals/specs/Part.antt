@@ -61,23 +61,29 @@ text_length b = 48 + 32 * part_rows b
 unfoldable pub to_512 : ℕ → Bool
 to_512 x = nat_le 1 x && nat_le x 512
 
+-- n, t and d from 1 to 512, three kinds that are not 0, a 0 behind them, and the length that t and the signature's length make
 unfoldable pub is_seal_part : Bytes → Bool
 is_seal_part b =
     to_512 (part_blocks b) && (to_512 (part_rows b) && (to_512 (part_strength b)
     && (nat_lt 0 (slice_index b 2) && (nat_lt 0 (part_digest_kind b) && (nat_lt 0 (part_sealer_kind b) && (slice_index b 7 == 0
     && length b == 50 + (32 * part_rows b + word b (text_length b))))))))
 
+-- the text that is signed
 unfoldable pub signed_text : Bytes → Bytes
 signed_text b = take (text_length b) b
 
+-- the signature, behind the text and its own length
 unfoldable pub signature_of : Bytes → Bytes
 signature_of b = drop (text_length b + 2) b
 
+-- the seal number, four bytes
 unfoldable pub seal_number : Bytes → ℕ
 seal_number b = word b 12 * 65536 + word b 14
 
+-- the digest that was sealed for row i
 unfoldable pub row_digest : Bytes → ℕ → Bytes
 row_digest b i = take 32 (drop (16 + 32 * (i - 1)) b)
 
+-- the digest that was sealed for the whole
 unfoldable pub whole_digest : Bytes → Bytes
 whole_digest b = take 32 (drop (16 + 32 * part_rows b) b)

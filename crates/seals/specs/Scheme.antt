@@ -14,8 +14,10 @@ pub record Inspection : Type 0 where
   pub kind : ℕ
   pub says : ℕ → Bytes → Bytes → Bool
 
+-- a digest, its kind and a family, put together
 abbrev pub scheme : (Bytes → Bytes) → ℕ → Shape → Scheme
 scheme digest digest_kind family = record { digest = digest; digest_kind = digest_kind; family = family }
 
+-- a kind and a yes or no, put together
 abbrev pub inspection : ℕ → (ℕ → Bytes → Bytes → Bool) → Inspection
 inspection kind says = record { kind = kind; says = says }

@@ -10,7 +10,8 @@ ghost use Rattle.seals.specs.Calls.{accept_answer, same_family, same_scheme, sam
 
 use crate::frames::{View, row_digest, whole_digest};
 use crate::part::{
-    is_family_of, is_seal_part, read_number, read_word, row_digest_of, text_end, whole_digest_of,
+    count_of, digest_kind_of, is_family_of, is_seal_part, read_number, row_digest_of,
+    sealer_kind_of, signature_of, text_of, whole_digest_of,
 };
 use answers::{Refusal, RowNumber};
 use digests::{Digest, same_bytes};
@@ -40,24 +41,13 @@ pub fn accept<'a, I: Inspector>(part: &'a [u8], inspector: &I) -> Result<Accepte
 }
 
 // Whether an inspector says yes to a seal part of its kind.
-#[tactic(auto, using(crate::proofs::Parts::part_head))]
+#[tactic(auto, using(crate::proofs::Parts::part_long, crate::proofs::Parts::part_head))]
 fn is_genuine<I: Inspector>(part: &[u8], inspector: &I) -> bool
     requires { is_seal_part part.now ≡ true }
     ensures { result ≡ (part_sealer_kind part.now == I.kind inspector.now && I.says inspector.now (seal_number part.now) (signed_text part.now) (signature_of part.now)) }
 {
-    let (text, signature) = signed(part);
-    part[6] == inspector.kind_byte() && inspector.inspect(read_number(part), text, signature)
-}
-
-// The signed text, and the signature.
-#[tactic(auto, using(crate::proofs::Parts::part_long, crate::proofs::Parts::part_head), unfolding(crate::specs::Part::signed_text, crate::specs::Part::signature_of))]
-fn signed(part: &[u8]) -> (&[u8], &[u8])
-    requires { is_seal_part part.now ≡ true }
-    ensures text { result.0.now ≡ signed_text part.now }
-    ensures signature { result.1.now ≡ signature_of part.now }
-{
-    let end = text_end(part);
-    (part.split_at(end).0, &part[end + 2..])
+    sealer_kind_of(part) == inspector.kind_byte()
+        && inspector.inspect(read_number(part), text_of(part), signature_of(part))
 }
 
 impl Accepted<'_> {
@@ -80,7 +70,7 @@ impl Accepted<'_> {
     pub(crate) fn has_scheme<D: Digest, F: Family>(&self, family: &F) -> bool
         ensures { result ≡ same_scheme (scheme D.digest D.KIND (F.shape family.now)) self.now.part.now }
     {
-        self.has_family(family) && self.part[5] == D::KIND
+        self.has_family(family) && digest_kind_of(self.part) == D::KIND
     }
 
     // Whether the sheet has as many blocks as were sealed.
@@ -88,7 +78,7 @@ impl Accepted<'_> {
     pub(crate) fn has_count(&self, sheet: &Sheet) -> bool
         ensures { result ≡ same_count (blocks_of sheet.now) self.now.part.now }
     {
-        sheet.block_count() == read_word(self.part, 0)
+        sheet.block_count() == count_of(self.part)
     }
 
     // Whether a row has the digest that was sealed.

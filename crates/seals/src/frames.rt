@@ -1,9 +1,9 @@
 // Images of rows and of the whole, streamed into a digest block by block: none is built in memory.
-ghost use Rattle.std.specs.Prelude.{◌≡◌, ◌+◌, ◌≤◌, ◌++◌, length, take, drop};
+ghost use Rattle.std.specs.Prelude.{◌≡◌, ◌+◌, ◌≤◌, ◌∷◌, ◌++◌, length, take, drop, cond, Some, None};
 ghost use Rattle.digests.specs.Strings.{Bytes};
 ghost use Rattle.sheets.specs.Blocks.{blocks_of};
 ghost use Rattle.sheets.specs.Calls.{block_at};
-ghost use Rattle.seals.specs.Images.{two_bytes, framed, row_image, whole_image};
+ghost use Rattle.seals.specs.Images.{two_bytes, framed, row_image, whole_image, frame_fits};
 ghost use Rattle.sheets.specs.Table.{max_bytes};
 ghost use Rattle.seals.specs.Excerpts.{image_around};
 ghost use Rattle.seals.specs.View.{viewed, Placed};
@@ -18,8 +18,11 @@ const ROW: u8 = 1;
 
 const WHOLE: u8 = 2;
 
+// How many bytes a block can have whose length is two bytes.
+const MAX_FRAMED: usize = 65_535;
+
 // How long a block's number and length are, in front of its bytes.
-pub(crate) const FRAME_HEAD: usize = 4;
+pub const FRAME_HEAD: usize = 4;
 
 // Bytes that are offered for a block.
 #[derive(Clone, Copy)]
@@ -63,7 +66,7 @@ fn frame_head(number: BlockNumber, length: usize) -> [u8; FRAME_HEAD]
 
 // Writes a framed block at a place of a buffer, and answers the place behind it.
 #[tactic(auto, using(crate::proofs::Buffer::two_pieces))]
-pub fn put_frame(out: &mut [u8], place: usize, number: BlockNumber, bytes: &[u8]) -> usize
+pub(crate) fn put_frame(out: &mut [u8], place: usize, number: BlockNumber, bytes: &[u8]) -> usize
     requires { (length bytes.now ≤ 65535) × (place + 4 + length bytes.now ≤ length out.old) }
     ensures place { result ≡ place + 4 + length bytes.now }
     ensures buffer { out.new ≡ take place out.old ++ (framed number.0 bytes.now ++ drop (place + 4 + length bytes.now) out.old) }
@@ -75,12 +78,36 @@ pub fn put_frame(out: &mut [u8], place: usize, number: BlockNumber, bytes: &[u8]
     end
 }
 
+// The same of whatever is asked: nothing is written where the frame does not fit, or the block is too long for one.
+#[tactic(auto, unfolding(crate::specs::Images::frame_fits))]
+pub fn write_frame(out: &mut [u8], place: usize, number: BlockNumber, bytes: &[u8]) -> Option<usize>
+    ensures place { result ≡ cond (frame_fits place (length bytes.now) (length out.old)) (Some (place + 4 + length bytes.now)) None }
+    ensures buffer { out.new
+        ≡ cond (frame_fits place (length bytes.now) (length out.old)) (take place out.old ++ (framed number.0 bytes.now ++ drop (place + 4 + length bytes.now) out.old)) out.old }
+{
+    let size = bytes.len();
+    if size > MAX_FRAMED || place > out.len() || size + FRAME_HEAD > out.len() - place {
+        return None;
+    }
+    Some(put_frame(out, place, number, bytes))
+}
+
 fn take_frame<D: Digest>(digest: &mut D, number: BlockNumber, bytes: &[u8])
     requires { length bytes.now ≤ 65535 }
     ensures { (taken : Bytes) → D.took digest.old taken → D.took digest.new (taken ++ framed number.0 bytes.now) }
 {
     digest.take(&frame_head(number, bytes.len()));
     digest.take(bytes);
+}
+
+// A digest that has taken what stands in front of a row's blocks.
+fn start_row<D: Digest>(row: RowNumber) -> D
+    ensures { D.took result (1 ∷ two_bytes row.0) }
+{
+    let [high, low] = row.0.to_be_bytes();
+    let mut digest = D::start();
+    digest.take(&[ROW, high, low]);
+    digest
 }
 
 // The digest of a row's image.
@@ -93,9 +120,7 @@ pub(crate) fn row_digest<D: Digest, F: Family>(
     requires count { length (blocks_of blocks.now.sheet.now) ≡ (F.shape family.now).blocks }
     ensures { result ≡ D.digest (row_image (F.shape family.now).holds row.0 (viewed blocks.now)) }
 {
-    let [high, low] = row.0.to_be_bytes();
-    let mut digest = D::start();
-    digest.take(&[ROW, high, low]);
+    let mut digest = start_row::<D>(row);
     for number in row_blocks(family, row) {
         take_frame(&mut digest, number, blocks.block(number));
     }
@@ -113,9 +138,7 @@ pub(crate) fn digest_around<D: Digest>(
     requires { (place ≤ length excerpt.now) × (length offer.now.bytes.now ≤ 65535) }
     ensures { result ≡ D.digest (image_around row.0 offer.now.number.0 offer.now.bytes.now excerpt.now place) }
 {
-    let [high, low] = row.0.to_be_bytes();
-    let mut digest = D::start();
-    digest.take(&[ROW, high, low]);
+    let mut digest = start_row::<D>(row);
     digest.take(&excerpt[..place]);
     take_frame(&mut digest, offer.number, offer.bytes);
     digest.take(&excerpt[place..]);

@@ -13,7 +13,8 @@ mod sealing;
 mod vouching;
 
 pub use accepted::{Accepted, accept};
-pub use frames::put_frame;
+pub use frames::{FRAME_HEAD, write_frame};
+pub use part::sealed_count;
 pub use sealing::seal;
 
 #[tactic(auto, using(crate::proofs::ExcerptLaw::excerpt_form))]

@@ -1,6 +1,6 @@
 // Reading a seal part. Its places are read here and nowhere else.
-ghost use Rattle.std.specs.Prelude.{◌≡◌, ◌+◌, ◌*◌, ◌≤◌, ◌&&◌, length, ◌==◌};
-ghost use Rattle.seals.specs.Part.{word, to_512, is_seal_part, seal_number, row_digest, whole_digest, text_length, part_blocks, part_strength, part_rows};
+ghost use Rattle.std.specs.Prelude.{◌≡◌, ◌+◌, ◌*◌, ◌≤◌, cond, Some, None, ◌&&◌, length, ◌==◌, nat_lt, slice_index};
+ghost use Rattle.seals.specs.Part.{word, to_512, is_seal_part, seal_number, row_digest, whole_digest, text_length, signed_text, signature_of, part_blocks, part_strength, part_rows, part_digest_kind, part_sealer_kind};
 ghost use Rattle.seals.specs.Calls.{same_family};
 
 use answers::RowNumber;
@@ -16,7 +16,7 @@ const LEAST: usize = 50;
 
 // The two bytes at a place, as a number.
 #[tactic(auto, unfolding(crate::specs::Part::word))]
-pub(crate) fn read_word(bytes: &[u8], place: usize) -> u16
+fn read_word(bytes: &[u8], place: usize) -> u16
     requires { place + 2 ≤ length bytes.now }
     ensures { result ≡ word bytes.now place }
 {
@@ -31,26 +31,60 @@ pub(crate) fn read_number(part: &[u8]) -> u32
     u32::from_be_bytes([part[12], part[13], part[14], part[15]])
 }
 
+// How many blocks were sealed.
+pub(crate) fn count_of(part: &[u8]) -> u16
+    requires { 16 ≤ length part.now }
+    ensures { result ≡ part_blocks part.now }
+{
+    read_word(part, 0)
+}
+
+pub(crate) fn digest_kind_of(part: &[u8]) -> u8
+    requires { 16 ≤ length part.now }
+    ensures { result ≡ part_digest_kind part.now }
+{
+    part[5]
+}
+
+pub(crate) fn sealer_kind_of(part: &[u8]) -> u8
+    requires { 16 ≤ length part.now }
+    ensures { result ≡ part_sealer_kind part.now }
+{
+    part[6]
+}
+
 // Where the signed text ends.
-pub(crate) fn text_end(part: &[u8]) -> usize
-    requires { 12 ≤ length part.now }
+fn text_end(part: &[u8]) -> usize
+    requires { 16 ≤ length part.now }
     ensures { result ≡ text_length part.now }
 {
     HEAD + DIGEST * (usize::from(read_word(part, 10)) + 1)
 }
 
+// The signed text.
+#[tactic(auto, unfolding(crate::specs::Part::signed_text))]
+pub(crate) fn text_of(part: &[u8]) -> &[u8]
+    requires { text_length part.now ≤ length part.now }
+    ensures { result.now ≡ signed_text part.now }
+{
+    &part[..text_end(part)]
+}
+
+// The signature. Two bytes between the text and it say how long it is.
+#[tactic(auto, unfolding(crate::specs::Part::signature_of))]
+pub(crate) fn signature_of(part: &[u8]) -> &[u8]
+    requires { text_length part.now + 2 ≤ length part.now }
+    ensures { result.now ≡ signature_of part.now }
+{
+    &part[text_end(part) + 2..]
+}
+
 // The reader of a part that is not yet known to be one.
-#[tactic(auto, unfolding(crate::specs::Part::is_seal_part, crate::specs::Part::to_512))]
+#[tactic(auto, unfolding(crate::specs::Part::is_seal_part))]
 pub(crate) fn is_seal_part(part: &[u8]) -> bool
     ensures { result ≡ is_seal_part part.now }
 {
-    part.len() >= LEAST
-        && has_counts(part)
-        && part[2] != 0
-        && part[5] != 0
-        && part[6] != 0
-        && part[7] == 0
-        && has_length(part)
+    part.len() >= LEAST && has_counts(part) && has_kinds(part) && has_length(part)
 }
 
 // Whether n, t and d are from 1 to 512.
@@ -60,9 +94,17 @@ fn has_counts(part: &[u8]) -> bool
     ensures { result ≡ (to_512 (part_blocks part.now) && (to_512 (part_rows part.now) && to_512 (part_strength part.now))) }
 {
     let limits = 1..=512;
-    limits.contains(&read_word(part, 0))
+    limits.contains(&count_of(part))
         && limits.contains(&read_word(part, 10))
         && limits.contains(&read_word(part, 8))
+}
+
+// Whether no kind is 0, and the byte behind them is.
+fn has_kinds(part: &[u8]) -> bool
+    requires { 50 ≤ length part.now }
+    ensures { result ≡ (nat_lt 0 (slice_index part.now 2) && (nat_lt 0 (part_digest_kind part.now) && (nat_lt 0 (part_sealer_kind part.now) && slice_index part.now 7 == 0))) }
+{
+    part[2] != 0 && digest_kind_of(part) != 0 && sealer_kind_of(part) != 0 && part[7] == 0
 }
 
 // Whether a part is as long as its rows and its signature make it.
@@ -74,13 +116,24 @@ fn has_length(part: &[u8]) -> bool
     end + 2 <= part.len() && part.len() == end + 2 + usize::from(read_word(part, end))
 }
 
+// How many blocks were sealed, if this is a seal part.
+#[tactic(auto, using(crate::proofs::Parts::part_head))]
+pub fn sealed_count(part: &[u8]) -> Option<u16>
+    ensures { result ≡ cond (is_seal_part part.now) (Some (part_blocks part.now)) None }
+{
+    if !is_seal_part(part) {
+        return None;
+    }
+    Some(count_of(part))
+}
+
 // Whether a family is the seal's.
 #[tactic(auto, unfolding(crate::specs::Calls::same_family))]
 pub(crate) fn is_family_of<F: Family>(part: &[u8], family: &F) -> bool
     requires { 16 ≤ length part.now }
     ensures { result ≡ same_family (F.shape family.now) part.now }
 {
-    read_word(part, 0) == family.block_count()
+    count_of(part) == family.block_count()
         && part[2] == family.kind_byte()
         && part[3] == family.q()
         && part[4] == family.k()

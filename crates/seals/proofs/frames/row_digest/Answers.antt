@@ -1,5 +1,4 @@
-use Rattle.std.proofs.Common.{◌≡◌, ◌++◌, [], ◌∷◌, length, sym, ap, ◌∙◌, subst, arith}
-use Rattle.digests.specs.Strings.{Bytes}
+use Rattle.std.proofs.Common.{◌++◌, length, sym, ap, ◌∙◌, subst}
 use Rattle.sheets.specs.Blocks.{blocks_of}
 use Rattle.seals.specs.Images.{framed}
 use Rattle.seals.specs.View.{viewed}
@@ -14,7 +13,7 @@ loop-number-init g c =
       tt,
       tt,
       rw left (row_there f c.args.row.0 (length (blocks_of v.sheet.now)) c.requires.count),
-      (_, (c.take.ensures [] c.start-digest.ensures, rw left (row_start f c.args.row.0 v c.to_be_bytes.result c.requires.count c.to_be_bytes.ensures))),
+      (_, (c.start_row-digest.ensures, rw left (row_start f c.args.row.0 v c.requires.count))),
     )
 
 pub block-requires-clause-there : goal.block-requires-clause-there

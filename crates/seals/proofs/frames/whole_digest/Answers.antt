@@ -1,6 +1,5 @@
-use Rattle.std.proofs.Common.{◌≡◌, ◌≤◌, ◌+◌, true, ◌++◌, [], ◌∷◌, length, sym, ap, ◌∙◌, subst, inl, arith}
+use Rattle.std.proofs.Common.{◌≤◌, ◌+◌, true, ◌++◌, [], length, sym, ap, ◌∙◌, inl, arith}
 use Rattle.std.specs.Iterator.Adapters.{enumerate_source, enumerate_count}
-use Rattle.sheets.specs.Blocks.{blocks_of}
 use Rattle.sheets.specs.Calls.{total_bytes}
 use Rattle.seals.specs.Images.{framed, framed_blocks}
 use Rattle.seals.proofs.Framed.{fits, whole_start, whole_step, whole_end}

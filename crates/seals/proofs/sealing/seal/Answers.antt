@@ -1,9 +1,8 @@
-use Rattle.std.proofs.Common.{◌≡◌, length, take, sym, subst, ◌∙◌, arith}
+use Rattle.std.proofs.Common.{length, sym, ◌∙◌, arith}
 use Rattle.std.proofs.lemmas.List.{length-take-le}
 use Rattle.sheets.specs.Blocks.{blocks_of}
 use Rattle.seals.specs.Scheme.{scheme, inspection}
 use Rattle.seals.specs.Part.{text_to_sign, signed_part}
-use Rattle.seals.specs.Law.{Promised}
 use Rattle.seals.proofs.Framed.{fits}
 use Rattle.seals.proofs.Sealed.{counted, was_drawn, has_room, length_is}
 use Rattle.seals.proofs.Promises.{sealed_promises, seen_alike}
