@@ -1,5 +1,5 @@
-// SHA-256 and BLAKE2s written straight from FIPS 180-4 and RFC 7693: plain DIGEST SIZE TURNS ROUNDS.
-// For each round it prints the nanoseconds that its turns took, and at the end the last digest.
+// SHA-256, BLAKE2s and the tree of an LMS key written straight from FIPS 180-4, RFC 7693 and RFC 8554: plain DIGEST|lms SIZE TURNS ROUNDS.
+// For each round it prints the nanoseconds that its turns took, and at the end the last digest or root.
 #include <stdint.h>
 #include <stdio.h>
 #include <stdlib.h>
@@ -96,6 +96,38 @@ static void blake2s(const uint8_t *p, size_t n, uint8_t out[32]) {
   for (int k = 0; k < 32; k++) out[k] = (uint8_t)(h[k / 4] >> k % 4 * 8);
 }
 
+// The first bytes of an input: I, a number of four bytes and one of two.
+static void begin(uint8_t *in, const uint8_t *id, uint32_t number, uint16_t mark) {
+  memcpy(in, id, 16);
+  for (int k = 0; k < 4; k++) in[16 + k] = (uint8_t)(number >> (24 - 8 * k));
+  in[20] = (uint8_t)(mark >> 8), in[21] = (uint8_t)mark;
+}
+
+// A key's root: the chains of 32 leaves by Appendix A, and the tree above them.
+static void lms_root(const uint8_t *id, const uint8_t *seed, uint8_t out[32]) {
+  static uint8_t node[64][32], ends[22 + 34 * 32];
+  uint8_t in[22 + 64];
+  for (uint32_t leaf = 0; leaf < 32; leaf++) {
+    for (uint16_t i = 0; i < 34; i++) {
+      uint8_t *value = ends + 22 + 32 * i;
+      begin(in, id, leaf, i);
+      in[22] = 0xff, memcpy(in + 23, seed, 32);
+      sha256(in, 55, value);
+      for (int j = 0; j < 255; j++) in[22] = (uint8_t)j, memcpy(in + 23, value, 32), sha256(in, 55, value);
+    }
+    begin(ends, id, leaf, 0x8080);
+    begin(in, id, 32 + leaf, 0x8282);
+    sha256(ends, sizeof ends, in + 22);
+    sha256(in, 54, node[32 + leaf]);
+  }
+  for (uint32_t r = 31; r >= 1; r--) {
+    begin(in, id, r, 0x8383);
+    memcpy(in + 22, node[2 * r], 64);
+    sha256(in, 86, node[r]);
+  }
+  memcpy(out, node[1], 32);
+}
+
 static int64_t nanos(void) {
   struct timespec t;
   clock_gettime(CLOCK_MONOTONIC, &t);
@@ -104,16 +136,16 @@ static int64_t nanos(void) {
 
 int main(int argc, char **argv) {
   if (argc != 5) return 2;
-  int first = !strcmp(argv[1], "sha256");
+  int first = !strcmp(argv[1], "sha256"), keys = !strcmp(argv[1], "lms");
   size_t size = strtoul(argv[2], 0, 10), turns = strtoul(argv[3], 0, 10), rounds = strtoul(argv[4], 0, 10);
-  if (size < 32 || (!first && strcmp(argv[1], "blake2s"))) return 2;
+  if (size < (keys ? 48 : 32) || (!first && !keys && strcmp(argv[1], "blake2s"))) return 2;
   uint8_t *text = malloc(size), out[32];
   if (!text) return 1;
   for (size_t i = 0; i < size; i++) text[i] = (uint8_t)(i * 7 + 3);
   for (size_t r = 0; r < rounds; r++) {
     int64_t start = nanos();
     for (size_t t = 0; t < turns; t++) {
-      first ? sha256(text, size, out) : blake2s(text, size, out);
+      keys ? lms_root(text, text + 16, out) : first ? sha256(text, size, out) : blake2s(text, size, out);
       memcpy(text, out, 32);
     }
     printf("%lld\n", (long long)(nanos() - start));

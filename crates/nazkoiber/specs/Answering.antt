@@ -5,9 +5,14 @@ use Rattle.answers.specs.declared.Refusal.{Refusal}
 use Rattle.answers.specs.Refusals.{shown_as, spaced}
 use Rattle.families.specs.Shape.{Shape}
 use Rattle.families.specs.Choice.{choose_answer}
+use Rattle.files.specs.File.{pack_answer, unpack_answer, blocks_of_file, seal_of}
 use Rattle.keys.specs.Key.{Key, drawn_once, draw_answer}
 use Rattle.keys.specs.Tag.{tag_says, tag_key_answer}
 use Rattle.digests.specs.Hmac.{hmac_of}
+use Rattle.lms.specs.Key.{lms_key_answer}
+use Rattle.lms.specs.Lms.{public_key, lms_root, lms_sign, lms_says}
+use Rattle.sha256.specs.Sha256.{sha256_of}
+use Rattle.std.specs.Result.{result_map_both}
 use Rattle.scripts.specs.Words.{Bytes, first_word}
 use Rattle.scripts.specs.Hex.{hex_text}
 use Rattle.scripts.specs.Lines.{silent, parts_behind}
@@ -22,9 +27,12 @@ use Rattle.nazkoiber.specs.declared.bench.Missing.{Missing}
 use Rattle.nazkoiber.specs.declared.bench.Missing.TheVariants.{NotAccepted, NoPart, NoFamily, NoKey, HandFull, HandEmpty}
 use Rattle.nazkoiber.specs.declared.bench.Stop.{Stop}
 use Rattle.nazkoiber.specs.declared.bench.Stop.TheVariants.{Refused, Lacking, OutOfMemory}
+use Rattle.nazkoiber.specs.declared.call.KeyWords.{KeyWords}
+use Rattle.nazkoiber.specs.declared.call.KeyWords.TheVariants.{Tag, Lms}
+use Rattle.nazkoiber.specs.declared.call.LmsWords.{LmsWords}
 use Rattle.nazkoiber.specs.declared.call.TagWords.{TagWords}
 use Rattle.nazkoiber.specs.Missed.{missing_text}
-use Rattle.nazkoiber.specs.Script.{Told, clear, cut, add, rewrite, show, sheet, digest, family, choose, rows, key, draw, burn, seal, part, set_part, accept, check, vouch, excerpt, confirm, line_told}
+use Rattle.nazkoiber.specs.Script.{Told, clear, cut, add, rewrite, show, sheet, digest, family, choose, rows, key, draw, burn, seal, part, set_part, accept, check, vouch, excerpt, confirm, pack, unpack, line_told}
 use Rattle.nazkoiber.specs.State.{Held, State, with_blocks, with_digest, with_family, with_key, with_part, with_hand, with_acceptance, digest_kind, scheme_by}
 
 -- a text made of what is there, or what is missing
@@ -41,14 +49,29 @@ abbrev pub on_seal : {A : Type 0} → State → (A → Bytes) → (Bytes → Sha
 on_seal s f call = elim (ready s) [ Err missing ↦ missing_text missing | Ok r ↦ text_of f (call r.0 r.1) ]
 
 -- the key that tag words make
-abbrev pub made_held : TagWords → Key → Held
-made_held w made =
+abbrev pub tag_held : TagWords → Key → Held
+tag_held w made =
     record {
       kind = 1;
       says = λ _ text signature. tag_says (digest_by w.digest) 64 w.secret text signature;
       signature = λ _ text. hmac_of (digest_by w.digest) 64 w.secret text;
       key = made;
     }
+
+-- and the one that LMS words make
+abbrev pub lms_held : LmsWords → Key → Held
+lms_held w made =
+    record {
+      kind = 2;
+      says = lms_says sha256_of (public_key w.id (lms_root sha256_of w.id w.seed));
+      signature = lms_sign sha256_of w.id w.seed;
+      key = made;
+    }
+
+-- making a key
+abbrev pub key_answer : KeyWords → Result Held Refusal
+key_answer (Tag w) = result_map_both (λ made. tag_held w made.1) (λ e. e) (tag_key_answer w.secret w.name w.next)
+key_answer (Lms w) = result_map_both (λ made. lms_held w made.2) (λ e. e) (lms_key_answer w.id w.seed w.next)
 
 -- kind, name, next number and count left
 abbrev pub key_text : Held → Bytes
@@ -69,7 +92,7 @@ answer_text (digest a) s = codes "digest " ++ decimal (digest_kind a)
 answer_text (family name) s = text_of family_text (name_answer name)
 answer_text (choose n d) s = text_of family_text (choose_answer n d)
 answer_text (rows j) s = given s.family NoFamily (λ f. rows_text f j)
-answer_text (key w) s = text_of (λ made. key_text (made_held w made.1)) (tag_key_answer w.secret w.name w.next)
+answer_text (key w) s = text_of key_text (key_answer w)
 answer_text draw s = given s.key NoKey (λ k. cond (is_some s.hand) (missing_text HandFull) (text_of (λ n. codes "number " ++ decimal n) (draw_answer k.key)))
 answer_text burn s = given s.hand HandEmpty (λ h. codes "burned " ++ decimal h.1)
 answer_text (seal room) s =
@@ -83,6 +106,8 @@ answer_text (vouch j v) s =
     on_seal s (λ r. codes "row " ++ (decimal r.0 ++ (codes " length " ++ decimal r.1))) (λ p f. vouch_answer (scheme_by s.digest f) p s.blocks j v)
 answer_text (excerpt j i room) s = on_seal s (λ e. codes "excerpt " ++ hex_text e) (λ p f. excerpt_answer f p s.blocks j i room)
 answer_text (confirm j i v e) s = on_seal s (λ _. codes "confirmed") (λ p f. confirm_answer (scheme_by s.digest f) p j i v e)
+answer_text (pack room) s = given s.part NoPart (λ p. text_of (λ file. codes "file " ++ hex_text file) (pack_answer s.blocks p room))
+answer_text (unpack file) s = text_of (λ r. codes "part " ++ (decimal r.0 ++ (codes " " ++ decimal r.1))) (unpack_answer s.blocks file)
 
 -- the state after a call that made something of what is there
 abbrev pub state_by : {A : Type 0} → (A → State) → State → Result A Refusal → State
@@ -113,7 +138,7 @@ state_after (rewrite j bytes) s = with_blocks s (after (rewrite_answer s.blocks 
 state_after (digest a) s = with_digest s a
 state_after (family name) s = state_by (with_family s) s (name_answer name)
 state_after (choose n d) s = state_by (with_family s) s (choose_answer n d)
-state_after (key w) s = state_by (λ made. with_key s (made_held w made.1)) s (tag_key_answer w.secret w.name w.next)
+state_after (key w) s = state_by (with_key s) s (key_answer w)
 state_after draw s = state_given s.key s (state_drawn s)
 state_after burn s = with_hand s s.key None
 state_after (seal room) s =
@@ -121,6 +146,8 @@ state_after (seal room) s =
 state_after (set_part bytes) s = with_part s (Some bytes)
 state_after accept s =
     state_given s.part s (λ p. state_given s.key s (λ k. state_by (λ _. with_acceptance s true) s (accept_answer (inspection k.kind k.says) p)))
+state_after (unpack file) s = state_by (λ _. with_part (with_blocks s (blocks_of_file file)) (Some (seal_of file))) s (unpack_answer s.blocks file)
+state_after (pack room) s = s
 state_after (show j) s = s
 state_after sheet s = s
 state_after (rows j) s = s

@@ -10,7 +10,10 @@ use Rattle.told.specs.declared.algorithm.Algorithm.{Algorithm}
 use Rattle.told.specs.declared.name.FamilyName.{FamilyName}
 use Rattle.nazkoiber.specs.declared.call.Call.{Call}
 use Rattle.nazkoiber.specs.declared.call.Call.TheVariants as calls
-use Rattle.nazkoiber.specs.declared.call.TagWords.{TagWords}
+use Rattle.nazkoiber.specs.declared.call.KeyKind.{KeyKind}
+use Rattle.nazkoiber.specs.declared.call.KeyKind.TheVariants as kinds
+use Rattle.nazkoiber.specs.declared.call.KeyWords.{KeyWords}
+use Rattle.nazkoiber.specs.declared.call.KeyWords.TheVariants as key_words
 use Rattle.nazkoiber.specs.declared.call.Verb.{Verb}
 use Rattle.nazkoiber.specs.declared.call.Verb.TheVariants as verbs
 
@@ -26,7 +29,7 @@ pub data Told : Type 0 where
   family : FamilyName → Told
   choose : ℕ → ℕ → Told
   rows : ℕ → Told
-  key : TagWords → Told
+  key : KeyWords → Told
   draw : Told
   burn : Told
   seal : ℕ → Told
@@ -37,6 +40,8 @@ pub data Told : Type 0 where
   vouch : ℕ → Bytes → Told
   excerpt : ℕ → ℕ → ℕ → Told
   confirm : ℕ → ℕ → Bytes → Bytes → Told
+  pack : ℕ → Told
+  unpack : Bytes → Told
 
 abbrev pub told : Call → Told
 told calls.Clear = clear
@@ -60,6 +65,8 @@ told (calls.Check room) = check room
 told (calls.Vouch block bytes) = vouch block.0 (vec_items bytes)
 told (calls.Excerpt block row room) = excerpt block.0 row.0 room
 told (calls.Confirm block row bytes others) = confirm block.0 row.0 (vec_items bytes) (vec_items others)
+told (calls.Pack room) = pack room
+told (calls.Unpack file) = unpack (vec_items file)
 
 -- the first word of each call
 abbrev pub verb_of : Bytes → Option Verb
@@ -82,14 +89,14 @@ verb_of =
     ∷ ((codes "seal", verbs.Seal)
     ∷ ((codes "part", verbs.Part)
     ∷ ((codes "accept", verbs.Accept)
-    ∷ ((codes "vouch", verbs.Vouch) ∷ ((codes "excerpt", verbs.Excerpt) ∷ ((codes "confirm", verbs.Confirm) ∷ []))))))))))))))))))))
+    ∷ ((codes "vouch", verbs.Vouch) ∷ ((codes "excerpt", verbs.Excerpt) ∷ ((codes "confirm", verbs.Confirm) ∷ ((codes "pack", verbs.Pack) ∷ ((codes "unpack", verbs.Unpack) ∷ []))))))))))))))))))))))
 
 -- the room that a last word names, of at most so much; where there is none, the usual one
 abbrev pub room_in : ℕ → ℕ → Option Bytes → Option ℕ
 room_in usual most None = Some usual
 room_in usual most (Some word) = number_of word most
 
--- so big that every sheet can be sealed, checked and excerpted
+-- so big that every sheet can be sealed, checked, excerpted and packed
 abbrev pub seal_room : ℕ
 seal_room = 82001
 
@@ -99,6 +106,9 @@ check_room = 512
 abbrev pub excerpt_room : ℕ
 excerpt_room = 131070
 
+abbrev pub file_room : ℕ
+file_room = 262144
+
 -- the most that a line can ask for: of a check, and of the others
 abbrev pub max_places : ℕ
 max_places = 65535
@@ -106,9 +116,9 @@ max_places = 65535
 abbrev pub max_room : ℕ
 max_room = 1048576
 
--- the word for tag keys; there are no others yet
-abbrev pub tag_word : Bytes → Option (Unit {0})
-tag_word = entry_at ((codes "tag", tt) ∷ [])
+-- the word for each kind of key
+abbrev pub key_kind_of : Bytes → Option KeyKind
+key_kind_of = entry_at ((codes "tag", kinds.Tag) ∷ ((codes "lms", kinds.Lms) ∷ []))
 
 -- the next number of a key, as a word
 abbrev pub next_of : Bytes → Option ℕ
@@ -120,7 +130,17 @@ tag_told =
     next_as algorithm_of (λ a.
     next_as (array_of 32) (λ secret.
     next_as (array_of 8) (λ name.
-    last_as next_of (λ next. key (record { digest = a; secret = secret; name = name; next = next })))))
+    last_as next_of (λ next. key (key_words.Tag (record { digest = a; secret = secret; name = name; next = next }))))))
+
+-- the key's 16 bytes of identifier, its 32 of seed, and its next number
+abbrev pub lms_told : Option Bytes → Option Told
+lms_told =
+    next_as (array_of 16) (λ id. next_as (array_of 32) (λ seed. last_as next_of (λ next. key (key_words.Lms (record { id = id; seed = seed; next = next })))))
+
+-- the words of a kind of key
+abbrev pub key_by : KeyKind → Option Bytes → Option Told
+key_by kinds.Tag rest = tag_told rest
+key_by kinds.Lms rest = lms_told rest
 
 -- the present seal part, or the bytes of another
 abbrev pub part_told : Option Bytes → Option Told
@@ -139,7 +159,7 @@ told_by verbs.Digest rest = last_as algorithm_of digest rest
 told_by verbs.Family rest = option_map family (family_named rest)
 told_by verbs.Choose rest = next_as count_of (λ n. last_as count_of (choose n)) rest
 told_by verbs.Rows rest = last_as count_of rows rest
-told_by verbs.Key rest = next_as tag_word (λ _. tag_told) rest
+told_by verbs.Key rest = next_as key_kind_of key_by rest
 told_by verbs.Draw rest = alone draw rest
 told_by verbs.Burn rest = alone burn rest
 told_by verbs.Seal rest = option_map seal (room_in seal_room max_room rest)
@@ -149,6 +169,8 @@ told_by verbs.Check rest = option_map check (room_in check_room max_places rest)
 told_by verbs.Vouch rest = next_as count_of (λ j. last_as hex_bytes (vouch j)) rest
 told_by verbs.Excerpt rest = next_as count_of (λ j. next_as count_of (λ i behind. option_map (excerpt j i) (room_in excerpt_room max_room behind))) rest
 told_by verbs.Confirm rest = next_as count_of (λ j. next_as count_of (λ i. next_as hex_bytes (λ v. last_as hex_bytes (confirm j i v)))) rest
+told_by verbs.Pack rest = option_map pack (room_in file_room max_room rest)
+told_by verbs.Unpack rest = last_as hex_bytes unpack rest
 
 -- the call that a line says, if it says one; a first word that is in no table says nothing
 unfoldable pub line_told : Bytes → Option Told

@@ -4,6 +4,7 @@ ghost use Rattle.nazkoiber.specs.Standing.{stands};
 ghost use Rattle.nazkoiber.specs.declared.bench.Stop.TheVariants.{Refused, Lacking, OutOfMemory};
 ghost use Rattle.nazkoiber.specs.Missed.{missing_text};
 
+pub mod file_calls;
 pub mod key_calls;
 pub mod run;
 pub mod seal_calls;

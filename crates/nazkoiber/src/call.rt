@@ -8,7 +8,7 @@ ghost use Rattle.scripts.specs.Reading.{Reads};
 ghost use Rattle.told.specs.Algorithms.{algorithm_of};
 ghost use Rattle.told.specs.Names.{count_of};
 ghost use Rattle.nazkoiber.specs.declared.call.Verb.TheVariants as verbs;
-ghost use Rattle.nazkoiber.specs.Script.{told, verb_of, told_by, tag_told, part_told, room_in, line_told};
+ghost use Rattle.nazkoiber.specs.Script.{told, verb_of, told_by, key_kind_of, tag_told, lms_told, part_told, room_in, line_told};
 
 use answers::{BlockNumber, RowNumber};
 use scripts::{ParseError, Words, decode_array, decode_hex, parse_number};
@@ -20,12 +20,14 @@ const MAX_PLACES: u32 = 65_535;
 
 const MAX_ROOM: u32 = 1_048_576;
 
-// The rooms where a line names none: for every sheet that can be sealed, checked and excerpted.
+// The rooms where a line names none: for every sheet that can be sealed, checked, excerpted and packed.
 const SEAL_ROOM: usize = 65_535 + 32 * 513 + 50;
 
 const CHECK_ROOM: usize = 512;
 
 const EXCERPT_ROOM: usize = 2 * 65_535;
+
+const FILE_ROOM: usize = 262_144;
 
 // A tag key by its words: the digest, the secret, the name and the next number.
 #[derive(Clone, Copy)]
@@ -34,6 +36,28 @@ pub struct TagWords {
     pub secret: [u8; 32],
     pub name: [u8; 8],
     pub next: u32,
+}
+
+// An LMS key: the identifier, the seed and the next number.
+#[derive(Clone, Copy)]
+pub struct LmsWords {
+    pub id: [u8; 16],
+    pub seed: [u8; 32],
+    pub next: u32,
+}
+
+// A key by its words.
+#[derive(Clone, Copy)]
+pub enum KeyWords {
+    Tag(TagWords),
+    Lms(LmsWords),
+}
+
+// The first word behind `key`.
+#[derive(Clone, Copy)]
+enum KeyKind {
+    Tag,
+    Lms,
 }
 
 // A script line that was taken apart.
@@ -50,7 +74,7 @@ pub enum Call {
     // A count of blocks, and a strength.
     Choose(u16, u16),
     Rows(BlockNumber),
-    Key(TagWords),
+    Key(KeyWords),
     Draw,
     Burn,
     // Places in the buffer, here and in check and excerpt.
@@ -63,6 +87,9 @@ pub enum Call {
     Excerpt(BlockNumber, RowNumber, usize),
     // A block, a row, offered bytes and an excerpt.
     Confirm(BlockNumber, RowNumber, Vec<u8>, Vec<u8>),
+    // Places in the buffer.
+    Pack(usize),
+    Unpack(Vec<u8>),
 }
 
 // The first word of a line. Apart from the call, since the definition of what a line says goes by it.
@@ -88,6 +115,8 @@ enum Verb {
     Vouch,
     Excerpt,
     Confirm,
+    Pack,
+    Unpack,
 }
 
 impl Call {
@@ -128,6 +157,8 @@ impl Verb {
             b"vouch" => Some(Verb::Vouch),
             b"excerpt" => Some(Verb::Excerpt),
             b"confirm" => Some(Verb::Confirm),
+            b"pack" => Some(Verb::Pack),
+            b"unpack" => Some(Verb::Unpack),
             _ => None,
         }
     }
@@ -157,6 +188,8 @@ impl Verb {
             Verb::Vouch => parse_vouch(alloc, words),
             Verb::Excerpt => parse_excerpt(words),
             Verb::Confirm => parse_confirm(alloc, words),
+            Verb::Pack => Ok(Call::Pack(parse_room(words, FILE_ROOM, MAX_ROOM)?)),
+            Verb::Unpack => Ok(Call::Unpack(decode_hex(alloc, words.last_word()?)?)),
         }
     }
 }
@@ -183,13 +216,26 @@ fn parse_choose(mut words: Words) -> Result<Call, ParseError>
     Ok(Call::Choose(n, parse_count(words.last_word()?)?))
 }
 
-// The only kind of key so far is `tag`.
+impl KeyKind {
+    #[tactic(auto, using(scripts::proofs::TableLemmas::row_read))]
+    fn named(word: &[u8]) -> Option<KeyKind>
+        ensures { result ≡ key_kind_of word.now }
+    {
+        match word {
+            b"tag" => Some(KeyKind::Tag),
+            b"lms" => Some(KeyKind::Lms),
+            _ => None,
+        }
+    }
+}
+
 fn parse_key(alloc: Global, mut words: Words) -> Result<Call, ParseError>
     ensures { Reads told (told_by verbs.Key words.entry) result }
 {
-    match words.next_word()? {
-        b"tag" => parse_tag(alloc, words),
-        _ => Err(ParseError::NotUnderstood),
+    let kind = KeyKind::named(words.next_word()?).ok_or(ParseError::NotUnderstood)?;
+    match kind {
+        KeyKind::Tag => parse_tag(alloc, words),
+        KeyKind::Lms => parse_lms(alloc, words),
     }
 }
 
@@ -200,12 +246,21 @@ fn parse_tag(alloc: Global, mut words: Words) -> Result<Call, ParseError>
     let secret = decode_array::<32>(alloc, words.next_word()?)?;
     let name = decode_array::<8>(alloc, words.next_word()?)?;
     let next = parse_number(words.last_word()?, u32::MAX).ok_or(ParseError::NotUnderstood)?;
-    Ok(Call::Key(TagWords {
+    Ok(Call::Key(KeyWords::Tag(TagWords {
         digest,
         secret,
         name,
         next,
-    }))
+    })))
+}
+
+fn parse_lms(alloc: Global, mut words: Words) -> Result<Call, ParseError>
+    ensures { Reads told (lms_told words.entry) result }
+{
+    let id = decode_array::<16>(alloc, words.next_word()?)?;
+    let seed = decode_array::<32>(alloc, words.next_word()?)?;
+    let next = parse_number(words.last_word()?, u32::MAX).ok_or(ParseError::NotUnderstood)?;
+    Ok(Call::Key(KeyWords::Lms(LmsWords { id, seed, next })))
 }
 
 fn parse_part(alloc: Global, words: Words) -> Result<Call, ParseError>

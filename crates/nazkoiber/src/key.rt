@@ -6,18 +6,21 @@ ghost use Rattle.nazkoiber.specs.KeyLaws.{inspector_range, key_range, key_lawful
 use answers::Refusal;
 use blake2s::Blake2s;
 use keys::{Inspector, Sealer, TagInspector, TagKey};
+use lms::{LmsKey, LmsPublic};
 use sha256::Sha256;
 
 #[derive(Drop)]
 pub enum AnyKey {
     TagSha256(TagKey<Sha256>),
     TagBlake2s(TagKey<Blake2s>),
+    Lms(LmsKey),
 }
 
 #[derive(Drop)]
 pub enum AnyInspector {
     TagSha256(TagInspector<Sha256>),
     TagBlake2s(TagInspector<Blake2s>),
+    Lms(LmsPublic),
 }
 
 // The same question to a key of whatever kind.
@@ -26,6 +29,7 @@ macro_rules! ask {
         match $any {
             AnyKey::TagSha256($key) => $answer,
             AnyKey::TagBlake2s($key) => $answer,
+            AnyKey::Lms($key) => $answer,
         }
     };
 }
@@ -41,6 +45,7 @@ impl Inspector for AnyInspector {
         match self {
             AnyInspector::TagSha256(inspector) => inspector.kind_byte(),
             AnyInspector::TagBlake2s(inspector) => inspector.kind_byte(),
+            AnyInspector::Lms(inspector) => inspector.kind_byte(),
         }
     }
 
@@ -48,6 +53,7 @@ impl Inspector for AnyInspector {
         match self {
             AnyInspector::TagSha256(inspector) => inspector.inspect(number, text, signature),
             AnyInspector::TagBlake2s(inspector) => inspector.inspect(number, text, signature),
+            AnyInspector::Lms(inspector) => inspector.inspect(number, text, signature),
         }
     }
 }
@@ -81,7 +87,7 @@ impl Sealer for AnyKey {
 
     ghost sized = { key_sized };
 
-    ghost genuine = { λ k number text drawn. key_genuine k number text };
+    ghost genuine = { key_genuine };
 
     ghost own_alike = { own_alike };
 
@@ -105,6 +111,7 @@ impl Sealer for AnyKey {
         match self {
             AnyKey::TagSha256(key) => AnyInspector::TagSha256(key.own()),
             AnyKey::TagBlake2s(key) => AnyInspector::TagBlake2s(key.own()),
+            AnyKey::Lms(key) => AnyInspector::Lms(key.own()),
         }
     }
 

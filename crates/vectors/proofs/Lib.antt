@@ -1,1 +1,3 @@
+mod Filled
+mod Rows
 mod Taken

@@ -7,10 +7,11 @@ use Rattle.told.specs.Algorithms.{digest_by}
 use Rattle.vectors.specs.Asked.{question_answer}
 use Rattle.vectors.specs.Families.{family_answer, rows_answer, choice_answer}
 use Rattle.vectors.specs.Tags.{tag_answer, inspect_answer}
+use Rattle.vectors.specs.LmsLines.{root_answer, sign_answer, verify_answer}
 use Rattle.vectors.specs.declared.digest.Question.TheVariants as questions
 use Rattle.told.specs.declared.algorithm.Algorithm.TheVariants.{Sha256, Blake2s}
 use Rattle.vectors.specs.declared.verb.Verb.{Verb}
-use Rattle.vectors.specs.declared.verb.Verb.TheVariants.{Digest, Family, Rows, Choose, Tag, Inspect}
+use Rattle.vectors.specs.declared.verb.Verb.TheVariants.{Digest, Family, Rows, Choose, Tag, Inspect, LmsRoot, LmsSign, LmsVerify}
 
 abbrev pub verb_of : Bytes → Option Verb
 verb_of =
@@ -22,7 +23,8 @@ verb_of =
     ∷ ((codes "hmac-blake2s", Digest Blake2s questions.Hmac)
     ∷ ((codes "repeat-blake2s", Digest Blake2s questions.Repeat)
     ∷ ((codes "family", Family) ∷ ((codes "rows", Rows) ∷ ((codes "choose", Choose)
-    ∷ ((codes "tag", Tag) ∷ ((codes "inspect", Inspect) ∷ [])))))))))))
+    ∷ ((codes "tag", Tag) ∷ ((codes "inspect", Inspect)
+    ∷ ((codes "lms-root", LmsRoot) ∷ ((codes "lms-sign", LmsSign) ∷ ((codes "lms-verify", LmsVerify) ∷ []))))))))))))))
 
 -- the text that a first word answers, with what stands behind the space after it
 abbrev pub verb_answer : Verb → Option Bytes → Option Bytes
@@ -32,6 +34,9 @@ verb_answer Rows rest = rows_answer rest
 verb_answer Choose rest = choice_answer rest
 verb_answer Tag rest = tag_answer rest
 verb_answer Inspect rest = inspect_answer rest
+verb_answer LmsRoot rest = root_answer rest
+verb_answer LmsSign rest = sign_answer rest
+verb_answer LmsVerify rest = verify_answer rest
 
 -- a first word that is in no table has no answer
 abbrev pub answer_if : Option Verb → Option Bytes → Option Bytes

@@ -1,9 +1,10 @@
-// Prints what digests, HMACs, families and tag keys answer to the lines of standard input, for test vectors.
+// Prints what digests, HMACs, families, tag keys and LMS keys answer to the lines of standard input, for test vectors.
 #![tactic(auto)]
 
 mod digest;
 mod family;
 mod lines;
+mod lms_lines;
 mod pieces;
 mod tag;
 mod verb;

@@ -98,7 +98,7 @@ fn inspect<D: Digest>(secret: [u8; 32], number: u32, text: &[u8], signature: &[u
     TagInspector::<D>::new(secret).inspect(number, text, signature)
 }
 
-fn print_says(alloc: Global, says: bool) -> Result<String, AllocError>
+pub fn print_says(alloc: Global, says: bool) -> Result<String, AllocError>
     ensures { IfOk result (λ s. string_bytes s ≡ says_text says) }
 {
     String::from_str(alloc, if says { "yes" } else { "no" })

@@ -5,6 +5,7 @@ ghost use Rattle.vectors.specs.Verbs.{verb_of, verb_answer, line_answer};
 
 use crate::digest::Question;
 use crate::family::{answer_choice, answer_family, answer_rows};
+use crate::lms_lines::{answer_root, answer_sign, answer_verify};
 use crate::tag::{answer_inspect, answer_tag};
 use blake2s::Blake2s;
 use scripts::{ParseError, Words};
@@ -25,6 +26,12 @@ enum Verb {
     Tag,
     // DIGEST KEY NUMBER TEXT SIGNATURE
     Inspect,
+    // I SEED
+    LmsRoot,
+    // I SEED LEAF TEXT
+    LmsSign,
+    // PUBLIC NUMBER TEXT SIGNATURE
+    LmsVerify,
 }
 
 // The text that a line answers, if it is understood.
@@ -39,7 +46,7 @@ pub fn line_answer(alloc: Global, line: &[u8]) -> Result<String, ParseError>
 }
 
 impl Verb {
-    #[tactic(auto, using(scripts::proofs::TableLemmas::row_read))]
+    #[tactic(auto, using(scripts::proofs::TableLemmas::row_read, crate::proofs::Rows::row_fifth))]
     fn named(word: &[u8]) -> Option<Verb>
         ensures { result ≡ verb_of word.now }
     {
@@ -55,6 +62,9 @@ impl Verb {
             b"choose" => Some(Verb::Choose),
             b"tag" => Some(Verb::Tag),
             b"inspect" => Some(Verb::Inspect),
+            b"lms-root" => Some(Verb::LmsRoot),
+            b"lms-sign" => Some(Verb::LmsSign),
+            b"lms-verify" => Some(Verb::LmsVerify),
             _ => None,
         }
     }
@@ -71,6 +81,9 @@ impl Verb {
             Verb::Choose => answer_choice(alloc, words),
             Verb::Tag => answer_tag(alloc, words),
             Verb::Inspect => answer_inspect(alloc, words),
+            Verb::LmsRoot => answer_root(alloc, words),
+            Verb::LmsSign => answer_sign(alloc, words),
+            Verb::LmsVerify => answer_verify(alloc, words),
         }
     }
 }

@@ -3,12 +3,13 @@ ghost use Rattle.std.specs.Prelude.{◌≡◌};
 ghost use Rattle.std.specs.Result.{result_map_both};
 ghost use Rattle.families.specs.Any.{any_shape};
 ghost use Rattle.keys.specs.Tag.{tag_key_answer};
+ghost use Rattle.lms.specs.Key.{lms_key_answer};
 ghost use Rattle.nazkoiber.specs.Script.{digest, family, choose, rows, key, draw, burn};
 ghost use Rattle.nazkoiber.specs.State.{held, state};
-ghost use Rattle.nazkoiber.specs.Answering.{Answered, FamilyTaken, KeyTaken, made_held};
+ghost use Rattle.nazkoiber.specs.Answering.{Answered, FamilyTaken, KeyTaken, key_answer, tag_held, lms_held};
 
 use super::{Bench, Missing, Stop};
-use crate::call::TagWords;
+use crate::call::{KeyWords, LmsWords, TagWords};
 use crate::key::AnyKey;
 use answers::{BlockNumber, Refusal};
 use blake2s::Blake2s;
@@ -16,6 +17,7 @@ use digests::Digest;
 use families::any::AnyFamily;
 use families::choose::choose;
 use keys::{Inspector, Sealer, TagKey, burn, draw};
+use lms::LmsKey;
 use scripts::Hex;
 use sha256::Sha256;
 use told::{Algorithm, FamilyName, family_text, rows_text};
@@ -59,7 +61,7 @@ impl Bench {
         Ok(rows_text(self.alloc, family, block)?)
     }
 
-    pub(super) fn set_key(&mut self, words: TagWords) -> Result<String, Stop>
+    pub(super) fn set_key(&mut self, words: KeyWords) -> Result<String, Stop>
         ensures { Answered (key words) (state self.old) (state self.new) result }
     {
         self.take_key(make_key(words)?)
@@ -101,8 +103,24 @@ impl Bench {
     }
 }
 
-fn make_key(words: TagWords) -> Result<AnyKey, Refusal>
-    ensures { result_map_both held (λ e. e) result ≡ result_map_both (λ made. made_held words made.1) (λ e. e) (tag_key_answer words.secret words.name words.next) }
+fn make_key(words: KeyWords) -> Result<AnyKey, Refusal>
+    ensures { result_map_both held (λ e. e) result ≡ key_answer words }
+{
+    match words {
+        KeyWords::Tag(words) => make_tag_key(words),
+        KeyWords::Lms(words) => make_lms_key(words),
+    }
+}
+
+fn make_lms_key(words: LmsWords) -> Result<AnyKey, Refusal>
+    ensures { result_map_both held (λ e. e) result ≡ result_map_both (λ made. lms_held words made.2) (λ e. e) (lms_key_answer words.id words.seed words.next) }
+{
+    let LmsWords { id, seed, next } = words;
+    Ok(AnyKey::Lms(LmsKey::new(id, seed, next)?))
+}
+
+fn make_tag_key(words: TagWords) -> Result<AnyKey, Refusal>
+    ensures { result_map_both held (λ e. e) result ≡ result_map_both (λ made. tag_held words made.1) (λ e. e) (tag_key_answer words.secret words.name words.next) }
 {
     let TagWords {
         digest,

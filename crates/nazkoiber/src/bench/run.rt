@@ -113,6 +113,8 @@ impl Bench {
             Call::Accept => self.accept(),
             Call::Check(room) => self.check(room),
             Call::Vouch(block, offered) => self.vouch(block, &offered),
+            Call::Pack(room) => self.pack(room),
+            Call::Unpack(file) => self.unpack(&file),
             Call::Excerpt(block, row, room) => self.excerpt(block, row, room),
             Call::Confirm(block, row, offered, others) => {
                 self.confirm(block, row, &offered, &others)
