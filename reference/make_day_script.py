@@ -5,7 +5,8 @@
 A truck's sheet is cut and sealed; the plate is typed in afterwards and named
 alone; a digit slips from one block to the next and both are named; too many
 blocks change; a block is vouched for and its excerpt confirmed; the sheet is
-restored and checked clean. What replay answers to it is found by nazkoiber.py.
+restored and checked clean; a file is packed and unpacked; another sheet is
+sealed by an LMS key. What replay answers to it is found by nazkoiber.py.
 """
 
 from nazkoiber import Replay
@@ -98,7 +99,53 @@ def day():
     yield f"key tag blake2s {KEY} {NAME} 42"
     yield "accept"
     yield "check"
+    yield "# sheet and seal part go into a file, and come out of it the same"
+    yield "pack 100"
+    packed = yield "pack"
+    file = packed.split(" ")[2]
+    yield f"unpack {file}"
+    yield "clear"
+    yield f"unpack {file[:-2]}55"
+    yield f"unpack {file}"
+    yield "check"
+    yield "accept"
+    yield "check"
+    yield "sheet"
+    yield "# a seal for another family, another count, and by another key's number"
+    yield "family plane 11"
+    yield "check"
+    yield "draw"
+    yield "seal"
+    yield "choose 12 2"
+    yield "choose 12 8"
+    yield "check"
+    yield f"key tag sha256 {KEY} {NAME[::-1]} 0"
+    yield "seal"
+    yield "burn"
+    yield "family plane 12"
+    yield f"unpack {file}"
+    yield "clear"
+    yield "pack"
+    yield f"part {file[:12]}"
+    yield "accept"
+    yield "# the next sheet is sealed by a leaf of an LMS key, under the first family that tells three blocks"
+    yield "add 6178"
+    yield "add -"
+    yield "add 6c65"
+    yield "choose 3 3"
+    yield "digest blake2s"
+    yield f"key lms {KEY[:32]} {KEY} 31"
+    yield "draw"
+    yield "seal"
+    yield "part"
+    yield "accept"
+    yield rewrite(2, "changed")
+    yield "check"
+    yield "draw"
+    yield f"key lms {KEY[:32]} {KEY} 33"
+    yield "pack"
     yield "# a day's last number is not lost"
+    yield f"key tag blake2s {KEY} {NAME} 42"
     yield "draw"
 
 
