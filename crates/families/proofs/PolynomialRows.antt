@@ -5,7 +5,7 @@ use lib.Arith.{digits_div, digits_mod}
 use Rattle.std.proofs.lemmas.Bool.{cases_Bool, cases_lt, eqb-true, eqb-false, eq-eqb, ne_eqb}
 use Rattle.families.specs.Numbers.{lowest}
 use Rattle.families.specs.Field.{FieldLaws}
-use Rattle.families.specs.Polynomial.{digits, coefficients, value, poly_row, poly_held, poly_blocks, poly_holds, Only, FirstWith}
+use Rattle.families.specs.Polynomial.{digits, coefficients, value, poly_row, poly_held, poly_blocks, poly_holds, Only, Opposite, FirstWith}
 use Rattle.families.specs.Counting.{some_here, none_there}
 use Rattle.families.specs.Bounded.{bounded_within, bounded_row}
 use Rattle.families.specs.Lowest.{lowest_found, lowest_none}
@@ -57,7 +57,7 @@ module _ (q : ℕ) (◌⊕◌ ◌⊗◌ : ℕ → ℕ → ℕ) (F : FieldLaws q 
       ∙ ap (λ i. poly_held q ◌⊕◌ ◌⊗◌ k i j) (sym whole) ∙ held_at k a v j ha (mod-lt (row - 1) pos)
 
   -- the one constant that makes a value
-  pub only_constant : (higher : List ℕ) (element v rest negated : ℕ) → rest ≡ element ⊗ value ◌⊕◌ ◌⊗◌ higher element → v < q → negated < q → rest ⊕ negated ≡ 0
+  only_constant : (higher : List ℕ) (element v rest negated : ℕ) → rest ≡ element ⊗ value ◌⊕◌ ◌⊗◌ higher element → v < q → negated < q → rest ⊕ negated ≡ 0
       → Only q ◌⊕◌ ◌⊗◌ higher element v (v ⊕ negated)
   only_constant higher element v rest negated is hv hn none = (
     F.sum_below v negated,
@@ -67,6 +67,17 @@ module _ (q : ℕ) (◌⊕◌ ◌⊗◌ : ℕ → ℕ → ℕ) (F : FieldLaws q 
         (λ e. sym (sum_zero q ◌⊕◌ ◌⊗◌ F x hx) ∙ ap (λ y. x ⊕ y) (sym none) ∙ sym (F.sum_assoc x rest negated) ∙ ap (λ y. y ⊕ negated) e)
         (λ e. ap (λ y. y ⊕ rest) e ∙ F.sum_assoc v negated rest ∙ ap (λ y. v ⊕ y) (F.sum_comm negated rest ∙ none) ∙ sum_zero q ◌⊕◌ ◌⊗◌ F v hv),
   )
+
+  -- the same by the negative that stands for a number whose lowest digit is the element
+  pub only_opposite : (k higher element v negative : ℕ) → element < q → v < q → Opposite q ◌⊕◌ ◌⊗◌ k (higher * q + element) negative
+      → Only q ◌⊕◌ ◌⊗◌ (digits q (k - 1) higher) element v (v ⊕ negative)
+  only_opposite k higher element v negative he hv opposite =
+      let x = higher * q + element in
+      let rest = (x % q) ⊗ value ◌⊕◌ ◌⊗◌ (digits q (k - 1) (x / q)) (x % q) in
+      only_constant (digits q (k - 1) higher) element v rest negative
+      (ap (λ e. e ⊗ value ◌⊕◌ ◌⊗◌ (digits q (k - 1) (x / q)) e) (digits_mod higher he)
+      ∙ ap (λ h. element ⊗ value ◌⊕◌ ◌⊗◌ (digits q (k - 1) h) element) (digits_div higher he))
+      hv opposite.0 opposite.1
 
   module _ (k : ℕ) (k1 : 1 ≤ k) (element v : ℕ) where
     abbrev hits : ℕ → Bool

@@ -1,5 +1,5 @@
 -- What a family answers, and its law. Assumes nothing.
-use Rattle.std.specs.Prelude.{◌≡◌, ℕ, ◌+◌, ◌-◌, ◌≤◌, Bool, true, List, map, Option}
+use Rattle.std.specs.Prelude.{◌≡◌, ℕ, ◌+◌, ◌-◌, ◌≤◌, Bool, true, List, Option}
 use Rattle.std.specs.Option.{option_map}
 use Rattle.answers.specs.declared.BlockNumber.{BlockNumber}
 use Rattle.answers.specs.Numbers.{block_number}

@@ -1,5 +1,5 @@
 // Finite fields: the numbers below q with a sum and a product.
-ghost use Rattle.std.specs.Prelude.{◌≡◌, ℕ, ◌^◌, ◌<◌, true, false, [], ◌∷◌, MatchResult};
+ghost use Rattle.std.specs.Prelude.{◌≡◌, ℕ, ◌%◌, ◌^◌, ◌<◌, ◌≤◌, true, false, [], ◌∷◌, MatchResult};
 ghost use Rattle.std.specs.Result.{result_map_both};
 ghost use Rattle.answers.specs.declared.Refusal.TheVariants.{NoSuchParameter};
 ghost use Rattle.families.specs.Choice.{product_of};
@@ -75,7 +75,7 @@ impl Field for Prime {
     }
 
     fn sum(&self, a: u8, b: u8) -> u8 {
-        ((u16::from(a) + u16::from(b)) % u16::from(self.q)) as u8
+        reduced(u16::from(a) + u16::from(b), self.q)
     }
 
     fn product(&self, a: u8, b: u8) -> u8 {
@@ -85,6 +85,22 @@ impl Field for Prime {
     fn negative(&self, a: u8) -> u8 {
         (self.q - a % self.q) % self.q
     }
+}
+
+// The remainder by q. It takes no division where the number is below 2 q, as a sum of two elements is.
+fn reduced(number: u16, q: u8) -> u8
+    requires { 1 ≤ q }
+    ensures { result ≡ number % q }
+{
+    let q = u16::from(q);
+    if number < q {
+        return number as u8;
+    }
+    let less = number - q;
+    if less < q {
+        return less as u8;
+    }
+    (less % q) as u8
 }
 
 // The products of the field of 8, by the modulus 1011 in binary, and of 16, by 10011.

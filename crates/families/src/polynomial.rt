@@ -1,9 +1,9 @@
 // Kind 3: a block is a polynomial over a field, and lies in the row of each element with the value there.
-ghost use Rattle.std.specs.Prelude.{◌≡◌, ◌-◌, ◌/◌, ◌%◌, ◌^◌, ◌<◌, ◌≤◌, true};
+ghost use Rattle.std.specs.Prelude.{◌≡◌, ◌+◌, ◌-◌, ◌*◌, ◌/◌, ◌%◌, ◌^◌, ◌<◌, ◌≤◌, true};
 ghost use Rattle.std.specs.Result.{result_map_both};
 ghost use Rattle.families.specs.Making.{poly_answer};
 ghost use Rattle.families.specs.Numbers.{among};
-ghost use Rattle.families.specs.Polynomial.{coefficient_counts, digits, value, poly_shape, Only, FirstWith};
+ghost use Rattle.families.specs.Polynomial.{coefficient_counts, digits, value, poly_shape, Only, FirstWith, Negated};
 ghost use Rattle.families.specs.Lawful.{poly_lawful};
 
 use crate::blocks::{BlockCount, is_within};
@@ -11,12 +11,18 @@ use crate::family::Family;
 use crate::fields::Field;
 use answers::{BlockNumber, Refusal, RowNumber};
 
+// Entries of a table of negatives: the numbers below 512, and two groups of at most 16 behind them.
+const ENTRIES: u16 = 544;
+
 #[derive(Drop)]
-pub struct Polynomial<F> {
+pub struct Polynomial<F: Field> {
     field: F,
     k: u8,
     blocks: BlockCount<512>,
+    // So that the next block of a row takes one sum, and no value of a polynomial.
+    negatives: [u8; 544],
     ghost degree: { among k coefficient_counts ≡ true },
+    ghost negated: { Negated (F.order field) (F.plus field) (F.times field) k 544 negatives },
 }
 
 impl<F: Field + Drop> Polynomial<F> {
@@ -31,7 +37,13 @@ impl<F: Field + Drop> Polynomial<F> {
         if u32::from(n) > power(field.q(), k) {
             return Err(Refusal::BadBlockCount);
         }
-        Ok(Polynomial { field, k, blocks })
+        let negatives = negatives(&field, k);
+        Ok(Polynomial {
+            field,
+            k,
+            blocks,
+            negatives,
+        })
     }
 }
 
@@ -91,7 +103,7 @@ impl<F: Field> Family for Polynomial<F> {
             return None;
         }
         let (element, value) = point_of(row, self.field.q());
-        let next = first_with(&self.field, self.k, element, value, after.0);
+        let next = self.first_with(element, value, after.0);
         if next < n {
             Some(BlockNumber(next + 1))
         } else {
@@ -140,26 +152,42 @@ fn split_digit(number: u16, q: u8) -> (u8, u16)
     ((number % u16::from(q)) as u8, number / u16::from(q))
 }
 
-// The first number, from one on, whose digits make a value at an element.
-fn first_with<F: Field>(field: &F, k: u8, element: u8, value: u8, from: u16) -> u16
-    requires { (1 ≤ k) × (value < F.order field.now) × (from ≤ 512) }
-    ensures first { FirstWith (F.order field.now) (F.plus field.now) (F.times field.now) k element value from result }
-    ensures bound { result ≤ 600 }
+// For each number, the negative of what its digits above the lowest add to a value, at the element that is its lowest digit.
+fn negatives<F: Field>(field: &F, k: u8) -> [u8; 544]
+    requires { 1 ≤ k }
+    ensures { Negated (F.order field.now) (F.plus field.now) (F.times field.now) k 544 result }
 {
-    let q = u16::from(field.q());
-    let group = from / q;
-    let here = group * q + constant_with(field, k, group, element, value);
-    if from <= here {
-        return here;
+    let mut negatives = [0; 544];
+    for number in 0..ENTRIES {
+        let (element, higher) = split_digit(number, field.q());
+        let rest = field.product(element, value_at(field, k - 1, higher, element));
+        negatives[usize::from(number)] = field.negative(rest);
     }
-    (group + 1) * q + constant_with(field, k, group + 1, element, value)
+    negatives
 }
 
-// The lowest digit that makes a value at an element, with the digits of a number above it.
-fn constant_with<F: Field>(field: &F, k: u8, higher: u16, element: u8, value: u8) -> u16
-    requires { (1 ≤ k) × (value < F.order field.now) }
-    ensures { Only (F.order field.now) (F.plus field.now) (F.times field.now) (digits (F.order field.now) (k - 1) higher) element value result }
-{
-    let rest = field.product(element, value_at(field, k - 1, higher, element));
-    u16::from(field.sum(value, field.negative(rest)))
+impl<F: Field> Polynomial<F> {
+    // The first number, from one on, whose digits make a value at an element.
+    fn first_with(&self, element: u8, value: u8, from: u16) -> u16
+        requires { (element < F.order self.now.field) × (value < F.order self.now.field) × (from ≤ 512) }
+        ensures first { FirstWith (F.order self.now.field) (F.plus self.now.field) (F.times self.now.field) self.now.k element value from result }
+        ensures bound { result ≤ 600 }
+    {
+        let q = u16::from(self.field.q());
+        let group = from / q;
+        let here = group * q + self.constant_with(group, element, value);
+        if from <= here {
+            return here;
+        }
+        (group + 1) * q + self.constant_with(group + 1, element, value)
+    }
+
+    // The lowest digit that makes a value at an element, with the digits of a number above it.
+    fn constant_with(&self, higher: u16, element: u8, value: u8) -> u16
+        requires { (element < F.order self.now.field) × (value < F.order self.now.field) × (higher * F.order self.now.field + element < 544) }
+        ensures { Only (F.order self.now.field) (F.plus self.now.field) (F.times self.now.field) (digits (F.order self.now.field) (self.now.k - 1) higher) element value result }
+    {
+        let place = higher * u16::from(self.field.q()) + u16::from(element);
+        u16::from(self.field.sum(value, self.negatives[usize::from(place)]))
+    }
 }
