@@ -1,0 +1,112 @@
+// Reading and writing whole files, so that none is ever seen half written. No contract can say what a file holds: that these do so is tested, and by design.
+#![tactic(auto)]
+
+use std::fs::{File, OpenOptions};
+use std::io::{Read, Write};
+use std::os::unix::fs::{MetadataExt, OpenOptionsExt};
+use std::path::Path;
+use std::{fs, io};
+
+// Who may read a file that is made.
+#[derive(Clone, Copy)]
+pub enum Access {
+    Owner,
+    All,
+}
+
+impl Access {
+    fn mode(self) -> u32 {
+        match self {
+            Access::Owner => 0o600,
+            Access::All => 0o666,
+        }
+    }
+}
+
+// All bytes of a file, or one more than most of them: so that who reads them can tell that there are too many, and no file fills the memory.
+pub fn read_up_to(rt: &HostRuntime, path: &str, most: u32) -> io::Result<Vec<u8>> {
+    read_file(rt, File::open(rt, path)?, most)
+}
+
+fn read_file(rt: &HostRuntime, file: File, most: u32) -> io::Result<Vec<u8>> {
+    let mut bytes = Vec::new(rt.alloc());
+    let _ = file.take(u64::from(most) + 1).read_to_end(&mut bytes)?;
+    Ok(bytes)
+}
+
+// Makes a file, where none has its name yet.
+pub fn create(rt: &HostRuntime, path: &str, bytes: &[u8], access: Access) -> io::Result<()> {
+    let beside = write_beside(rt, path, bytes, access)?;
+    let linked = fs::hard_link(rt, beside.as_str(), path);
+    let _ = fs::remove_file(rt, beside.as_str());
+    linked?;
+    sync_folder(rt, path)
+}
+
+// Puts bytes in the place of a file, or makes it. They stand on the disk as a whole before they take the place, so that at any moment the place has all of the old bytes or all of the new.
+pub fn replace(rt: &HostRuntime, path: &str, bytes: &[u8], access: Access) -> io::Result<()> {
+    let beside = write_beside(rt, path, bytes, access)?;
+    if let Err(error) = fs::rename(rt, beside.as_str(), path) {
+        let _ = fs::remove_file(rt, beside.as_str());
+        return Err(error);
+    }
+    sync_folder(rt, path)
+}
+
+// Writes bytes to a new file in the same folder, and answers its name.
+fn write_beside(rt: &HostRuntime, path: &str, bytes: &[u8], access: Access) -> io::Result<String> {
+    let beside = format!(in rt.alloc(); "{path}.nazkoiber-new")?;
+    // What a run that was cut off has left there.
+    let _ = fs::remove_file(rt, beside.as_str());
+    if let Err(error) = write_new(rt, beside.as_str(), bytes, access) {
+        let _ = fs::remove_file(rt, beside.as_str());
+        return Err(error);
+    }
+    Ok(beside)
+}
+
+fn write_new(rt: &HostRuntime, path: &str, bytes: &[u8], access: Access) -> io::Result<()> {
+    let mut file = OpenOptions::new()
+        .write(true)
+        .create_new(true)
+        .mode(access.mode())
+        .open(rt, path)?;
+    file.write_all(bytes)?;
+    file.sync_all()
+}
+
+// The name of a file is on the disk too once its folder is.
+fn sync_folder(rt: &HostRuntime, path: &str) -> io::Result<()> {
+    let folder = match Path::new(path).parent() {
+        Some(folder) if !folder.as_str().is_empty() => folder.as_str(),
+        _ => ".",
+    };
+    File::open(rt, folder)?.sync_all()
+}
+
+// A file that this program alone works on, until this is let go.
+#[derive(Drop)]
+pub struct Locked<'a> {
+    path: &'a str,
+    file: File,
+}
+
+// Locks a file. The lock is on what the name stood for: where another program has put a new file in its place meanwhile, it is refused too.
+pub fn lock<'a>(rt: &HostRuntime, path: &'a str) -> io::Result<Locked<'a>> {
+    let file = File::open(rt, path)?;
+    if file.try_lock().is_err() || file.metadata()?.ino() != fs::metadata(rt, path)?.ino() {
+        return Err(io::Error::from(io::ErrorKind::ResourceBusy));
+    }
+    Ok(Locked { path, file })
+}
+
+impl Locked<'_> {
+    pub fn read_up_to(&self, rt: &HostRuntime, most: u32) -> io::Result<Vec<u8>> {
+        read_file(rt, self.file.try_clone()?, most)
+    }
+
+    // Puts bytes in its place, that the owner alone may read.
+    pub fn replace(&self, rt: &HostRuntime, bytes: &[u8]) -> io::Result<()> {
+        replace(rt, self.path, bytes, Access::Owner)
+    }
+}
