@@ -33,6 +33,30 @@ number_of r = (meaning r).0
 abbrev pub values_of : Refusal → List ℕ
 values_of r = (meaning r).1
 
+-- the same in plain words
+abbrev pub reason_of : Refusal → List ℕ
+reason_of EmptyText = codes "the text is empty"
+reason_of TooManyLines = codes "the text has more than 512 lines"
+reason_of TooLong = codes "more than 38,912 bytes"
+reason_of NoSuchBlock = codes "no such block"
+reason_of BadBlockCount = codes "no family for so many blocks"
+reason_of NoSuchParameter = codes "no such family, or the key's next number is above its limit"
+reason_of NoRoom = codes "the list or buffer is too short"
+reason_of Malformed = codes "not a seal part or not a sealed file"
+reason_of NotGenuine = codes "not signed by this key"
+reason_of RowLacksBlock = codes "the row does not hold the block"
+reason_of WrongExcerpt = codes "the excerpt is not the row's other blocks"
+reason_of RowDiffers = codes "the row's digest differs"
+reason_of SheetFull = codes "the sheet is full"
+reason_of SheetNotEmpty = codes "the sheet is not empty"
+reason_of SheetEmpty = codes "the sheet is empty"
+reason_of NoneLeft = codes "the key has no numbers left"
+reason_of NotDrawn = codes "the number was not drawn by this key"
+reason_of OtherScheme = codes "another family or digest than the seal's"
+reason_of OtherBlockCount = codes "another count of blocks than the seal's"
+reason_of (TooManySuspects count) = codes "too many blocks were changed to say which"
+reason_of NoRowVouches = codes "no row tells that the bytes are the sealed ones"
+
 -- each number in decimal, with a space before it
 abbrev pub spaced : List ℕ → List ℕ
 spaced [] = []

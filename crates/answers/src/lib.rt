@@ -2,7 +2,7 @@
 #![tactic(auto)]
 
 ghost use Rattle.std.specs.Prelude.{◌≡◌, ◌+◌, Some, MatchOption};
-ghost use Rattle.answers.specs.Refusals.{number_of, shown_as};
+ghost use Rattle.answers.specs.Refusals.{number_of, reason_of, shown_as};
 
 use std::error::Error;
 use std::fmt;
@@ -79,6 +79,36 @@ impl Refusal {
             Refusal::OtherBlockCount => 27,
             Refusal::TooManySuspects(_) => 28,
             Refusal::NoRowVouches => 29,
+        }
+    }
+
+    // The same in plain words, for people who read no numbers.
+    pub fn reason(self) -> &'static str
+        ensures { result.now ≡ reason_of self }
+    {
+        match self {
+            Refusal::EmptyText => "the text is empty",
+            Refusal::TooManyLines => "the text has more than 512 lines",
+            Refusal::TooLong => "more than 38,912 bytes",
+            Refusal::NoSuchBlock => "no such block",
+            Refusal::BadBlockCount => "no family for so many blocks",
+            Refusal::NoSuchParameter =>
+                "no such family, or the key's next number is above its limit",
+            Refusal::NoRoom => "the list or buffer is too short",
+            Refusal::Malformed => "not a seal part or not a sealed file",
+            Refusal::NotGenuine => "not signed by this key",
+            Refusal::RowLacksBlock => "the row does not hold the block",
+            Refusal::WrongExcerpt => "the excerpt is not the row's other blocks",
+            Refusal::RowDiffers => "the row's digest differs",
+            Refusal::SheetFull => "the sheet is full",
+            Refusal::SheetNotEmpty => "the sheet is not empty",
+            Refusal::SheetEmpty => "the sheet is empty",
+            Refusal::NoneLeft => "the key has no numbers left",
+            Refusal::NotDrawn => "the number was not drawn by this key",
+            Refusal::OtherScheme => "another family or digest than the seal's",
+            Refusal::OtherBlockCount => "another count of blocks than the seal's",
+            Refusal::TooManySuspects(_) => "too many blocks were changed to say which",
+            Refusal::NoRowVouches => "no row tells that the bytes are the sealed ones",
         }
     }
 }

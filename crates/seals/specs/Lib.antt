@@ -1,6 +1,7 @@
 pub mod Images
 pub mod Scheme
 pub mod Part
+pub mod Head
 pub mod Calls
 pub mod Excerpts
 pub mod Law

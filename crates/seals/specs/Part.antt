@@ -46,6 +46,16 @@ part_strength b = word b 8
 abbrev pub part_rows : Bytes → ℕ
 part_rows b = word b 10
 
+-- its family's kind, q and k
+abbrev pub part_family_kind : Bytes → ℕ
+part_family_kind b = slice_index b 2
+
+abbrev pub part_q : Bytes → ℕ
+part_q b = slice_index b 3
+
+abbrev pub part_k : Bytes → ℕ
+part_k b = slice_index b 4
+
 -- its digest kind and sealer kind
 abbrev pub part_digest_kind : Bytes → ℕ
 part_digest_kind b = slice_index b 5

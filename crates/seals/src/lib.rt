@@ -8,12 +8,14 @@ mod accepted;
 mod checking;
 mod excerpts;
 mod frames;
+mod head;
 mod part;
 mod sealing;
 mod vouching;
 
 pub use accepted::{Accepted, accept};
 pub use frames::{FRAME_HEAD, write_frame};
+pub use head::{PartHead, head_of};
 pub use part::sealed_count;
 pub use sealing::seal;
 

@@ -1,6 +1,6 @@
 // Reading a seal part. Its places are read here and nowhere else.
 ghost use Rattle.std.specs.Prelude.{◌≡◌, ◌+◌, ◌*◌, ◌≤◌, cond, Some, None, ◌&&◌, length, ◌==◌, nat_lt, slice_index};
-ghost use Rattle.seals.specs.Part.{word, to_512, is_seal_part, seal_number, row_digest, whole_digest, text_length, signed_text, signature_of, part_blocks, part_strength, part_rows, part_digest_kind, part_sealer_kind};
+ghost use Rattle.seals.specs.Part.{word, to_512, is_seal_part, seal_number, row_digest, whole_digest, text_length, signed_text, signature_of, part_blocks, part_strength, part_rows, part_family_kind, part_q, part_k, part_digest_kind, part_sealer_kind};
 ghost use Rattle.seals.specs.Calls.{same_family};
 
 use answers::RowNumber;
@@ -39,6 +39,27 @@ pub(crate) fn count_of(part: &[u8]) -> u16
     read_word(part, 0)
 }
 
+pub(crate) fn family_kind_of(part: &[u8]) -> u8
+    requires { 16 ≤ length part.now }
+    ensures { result ≡ part_family_kind part.now }
+{
+    part[2]
+}
+
+pub(crate) fn q_of(part: &[u8]) -> u8
+    requires { 16 ≤ length part.now }
+    ensures { result ≡ part_q part.now }
+{
+    part[3]
+}
+
+pub(crate) fn k_of(part: &[u8]) -> u8
+    requires { 16 ≤ length part.now }
+    ensures { result ≡ part_k part.now }
+{
+    part[4]
+}
+
 pub(crate) fn digest_kind_of(part: &[u8]) -> u8
     requires { 16 ≤ length part.now }
     ensures { result ≡ part_digest_kind part.now }
@@ -53,12 +74,26 @@ pub(crate) fn sealer_kind_of(part: &[u8]) -> u8
     part[6]
 }
 
+pub(crate) fn strength_of(part: &[u8]) -> u16
+    requires { 16 ≤ length part.now }
+    ensures { result ≡ part_strength part.now }
+{
+    read_word(part, 8)
+}
+
+pub(crate) fn rows_of(part: &[u8]) -> u16
+    requires { 16 ≤ length part.now }
+    ensures { result ≡ part_rows part.now }
+{
+    read_word(part, 10)
+}
+
 // Where the signed text ends.
 fn text_end(part: &[u8]) -> usize
     requires { 16 ≤ length part.now }
     ensures { result ≡ text_length part.now }
 {
-    HEAD + DIGEST * (usize::from(read_word(part, 10)) + 1)
+    HEAD + DIGEST * (usize::from(rows_of(part)) + 1)
 }
 
 // The signed text.
@@ -95,8 +130,8 @@ fn has_counts(part: &[u8]) -> bool
 {
     let limits = 1..=512;
     limits.contains(&count_of(part))
-        && limits.contains(&read_word(part, 10))
-        && limits.contains(&read_word(part, 8))
+        && limits.contains(&rows_of(part))
+        && limits.contains(&strength_of(part))
 }
 
 // Whether no kind is 0, and the byte behind them is.
@@ -134,11 +169,11 @@ pub(crate) fn is_family_of<F: Family>(part: &[u8], family: &F) -> bool
     ensures { result ≡ same_family (F.shape family.now) part.now }
 {
     count_of(part) == family.block_count()
-        && part[2] == family.kind_byte()
-        && part[3] == family.q()
-        && part[4] == family.k()
-        && read_word(part, 8) == family.strength()
-        && read_word(part, 10) == family.row_count()
+        && family_kind_of(part) == family.kind_byte()
+        && q_of(part) == family.q()
+        && k_of(part) == family.k()
+        && strength_of(part) == family.strength()
+        && rows_of(part) == family.row_count()
 }
 
 #[tactic(auto, unfolding(crate::specs::Part::row_digest))]
