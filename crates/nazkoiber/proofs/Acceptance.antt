@@ -7,10 +7,10 @@ use Rattle.seals.specs.Scheme.{Inspection, inspection}
 use Rattle.seals.specs.Part.{is_seal_part, part_sealer_kind, seal_number, signed_text, signature_of}
 use Rattle.seals.proofs.Answers.{was_answered}
 use Rattle.seals.specs.Calls.{accept_answer}
-use Rattle.nazkoiber.specs.declared.key.AnyInspector.{AnyInspector}
-use Rattle.nazkoiber.specs.declared.key.AnyKey.{AnyKey}
-use Rattle.nazkoiber.specs.Keys.{inspector_kind, inspector_says, key_kind, key_says, KeyOwns}
-use Rattle.nazkoiber.specs.KeyLaws.{own_alike}
+use Rattle.keyfiles.specs.declared.key.AnyInspector.{AnyInspector}
+use Rattle.keyfiles.specs.declared.key.AnyKey.{AnyKey}
+use Rattle.keyfiles.specs.Keys.{inspector_kind, inspector_says, key_kind, key_says, KeyOwns}
+use Rattle.keyfiles.specs.KeyLaws.{own_alike}
 
 pub accepts_alike : (k : AnyKey) (i : AnyInspector) (part : Bytes) → KeyOwns k i
     → accept_answer (inspection (inspector_kind i) (inspector_says i)) part ≡ accept_answer (inspection (key_kind k) (key_says k)) part

@@ -6,13 +6,8 @@ use Rattle.answers.specs.Refusals.{shown_as, spaced}
 use Rattle.families.specs.Shape.{Shape}
 use Rattle.families.specs.Choice.{choose_answer}
 use Rattle.files.specs.File.{pack_answer, unpack_answer, blocks_of_file, seal_of}
-use Rattle.keys.specs.Key.{Key, drawn_once, draw_answer}
-use Rattle.keys.specs.Tag.{tag_says, tag_key_answer}
-use Rattle.digests.specs.Hmac.{hmac_of}
-use Rattle.lms.specs.Key.{lms_key_answer}
-use Rattle.lms.specs.Lms.{public_key, lms_root, lms_sign, lms_says}
-use Rattle.sha256.specs.Sha256.{sha256_of}
-use Rattle.std.specs.Result.{result_map_both}
+use Rattle.keys.specs.Key.{drawn_once, draw_answer}
+use Rattle.keyfiles.specs.Making.{Held, key_answer}
 use Rattle.scripts.specs.Words.{Bytes, first_word}
 use Rattle.scripts.specs.Hex.{hex_text}
 use Rattle.scripts.specs.Lines.{silent, parts_behind}
@@ -20,20 +15,15 @@ use Rattle.seals.specs.Scheme.{inspection}
 use Rattle.seals.specs.Part.{seal_number, signed_part}
 use Rattle.seals.specs.Calls.{seal_answer, accept_answer, check_answer, vouch_answer, excerpt_answer, confirm_answer}
 use Rattle.sheets.specs.Calls.{total_bytes, with_block, lines, cut_answer, add_answer, rewrite_answer, block_answer, after}
-use Rattle.told.specs.Algorithms.{digest_by}
 use Rattle.told.specs.Names.{name_answer}
 use Rattle.told.specs.Texts.{family_text, rows_text, text_of}
 use Rattle.nazkoiber.specs.declared.bench.Missing.{Missing}
 use Rattle.nazkoiber.specs.declared.bench.Missing.TheVariants.{NotAccepted, NoPart, NoFamily, NoKey, HandFull, HandEmpty}
 use Rattle.nazkoiber.specs.declared.bench.Stop.{Stop}
 use Rattle.nazkoiber.specs.declared.bench.Stop.TheVariants.{Refused, Lacking, OutOfMemory}
-use Rattle.nazkoiber.specs.declared.call.KeyWords.{KeyWords}
-use Rattle.nazkoiber.specs.declared.call.KeyWords.TheVariants.{Tag, Lms}
-use Rattle.nazkoiber.specs.declared.call.LmsWords.{LmsWords}
-use Rattle.nazkoiber.specs.declared.call.TagWords.{TagWords}
 use Rattle.nazkoiber.specs.Missed.{missing_text}
 use Rattle.nazkoiber.specs.Script.{Told, clear, cut, add, rewrite, show, sheet, digest, family, choose, rows, key, draw, burn, seal, part, set_part, accept, check, vouch, excerpt, confirm, pack, unpack, line_told}
-use Rattle.nazkoiber.specs.State.{Held, State, with_blocks, with_digest, with_family, with_key, with_part, with_hand, with_acceptance, digest_kind, scheme_by}
+use Rattle.nazkoiber.specs.State.{State, with_blocks, with_digest, with_family, with_key, with_part, with_hand, with_acceptance, digest_kind, scheme_by}
 
 -- a text made of what is there, or what is missing
 abbrev pub given : {A : Type 0} → Option A → Missing → (A → Bytes) → Bytes
@@ -47,31 +37,6 @@ ready s = elim (cond s.accepted s.part None) [ None ↦ Err NotAccepted | Some p
 -- what a call makes of both
 abbrev pub on_seal : {A : Type 0} → State → (A → Bytes) → (Bytes → Shape → Result A Refusal) → Bytes
 on_seal s f call = elim (ready s) [ Err missing ↦ missing_text missing | Ok r ↦ text_of f (call r.0 r.1) ]
-
--- the key that tag words make
-abbrev pub tag_held : TagWords → Key → Held
-tag_held w made =
-    record {
-      kind = 1;
-      says = λ _ text signature. tag_says (digest_by w.digest) 64 w.secret text signature;
-      signature = λ _ text. hmac_of (digest_by w.digest) 64 w.secret text;
-      key = made;
-    }
-
--- and the one that LMS words make
-abbrev pub lms_held : LmsWords → Key → Held
-lms_held w made =
-    record {
-      kind = 2;
-      says = lms_says sha256_of (public_key w.id (lms_root sha256_of w.id w.seed));
-      signature = lms_sign sha256_of w.id w.seed;
-      key = made;
-    }
-
--- making a key
-abbrev pub key_answer : KeyWords → Result Held Refusal
-key_answer (Tag w) = result_map_both (λ made. tag_held w made.1) (λ e. e) (tag_key_answer w.secret w.name w.next)
-key_answer (Lms w) = result_map_both (λ made. lms_held w made.2) (λ e. e) (lms_key_answer w.id w.seed w.next)
 
 -- kind, name, next number and count left
 abbrev pub key_text : Held → Bytes

@@ -2,7 +2,7 @@
 use Rattle.std.specs.Prelude.{ℕ, [], ◌∷◌, Some, None, vec_items, codes, Option}
 use Rattle.std.specs.Option.{option_map}
 use Rattle.scripts.specs.Words.{Bytes, alone, entry_at, number_of}
-use Rattle.scripts.specs.Hex.{hex_bytes, array_of}
+use Rattle.scripts.specs.Hex.{hex_bytes}
 use Rattle.scripts.specs.Reading.{next_as, last_as}
 use Rattle.told.specs.Algorithms.{algorithm_of}
 use Rattle.told.specs.Names.{count_of, family_named}
@@ -10,10 +10,8 @@ use Rattle.told.specs.declared.algorithm.Algorithm.{Algorithm}
 use Rattle.told.specs.declared.name.FamilyName.{FamilyName}
 use Rattle.nazkoiber.specs.declared.call.Call.{Call}
 use Rattle.nazkoiber.specs.declared.call.Call.TheVariants as calls
-use Rattle.nazkoiber.specs.declared.call.KeyKind.{KeyKind}
-use Rattle.nazkoiber.specs.declared.call.KeyKind.TheVariants as kinds
-use Rattle.nazkoiber.specs.declared.call.KeyWords.{KeyWords}
-use Rattle.nazkoiber.specs.declared.call.KeyWords.TheVariants as key_words
+use Rattle.keyfiles.specs.declared.words.KeyWords.{KeyWords}
+use Rattle.keyfiles.specs.Words.{key_told}
 use Rattle.nazkoiber.specs.declared.call.Verb.{Verb}
 use Rattle.nazkoiber.specs.declared.call.Verb.TheVariants as verbs
 
@@ -116,32 +114,6 @@ max_places = 65535
 abbrev pub max_room : ℕ
 max_room = 1048576
 
--- the word for each kind of key
-abbrev pub key_kind_of : Bytes → Option KeyKind
-key_kind_of = entry_at ((codes "tag", kinds.Tag) ∷ ((codes "lms", kinds.Lms) ∷ []))
-
--- the next number of a key, as a word
-abbrev pub next_of : Bytes → Option ℕ
-next_of word = number_of word 4294967295
-
--- the digest's name, the key's 32 bytes, its name's 8, and its next number
-abbrev pub tag_told : Option Bytes → Option Told
-tag_told =
-    next_as algorithm_of (λ a.
-    next_as (array_of 32) (λ secret.
-    next_as (array_of 8) (λ name.
-    last_as next_of (λ next. key (key_words.Tag (record { digest = a; secret = secret; name = name; next = next }))))))
-
--- the key's 16 bytes of identifier, its 32 of seed, and its next number
-abbrev pub lms_told : Option Bytes → Option Told
-lms_told =
-    next_as (array_of 16) (λ id. next_as (array_of 32) (λ seed. last_as next_of (λ next. key (key_words.Lms (record { id = id; seed = seed; next = next })))))
-
--- the words of a kind of key
-abbrev pub key_by : KeyKind → Option Bytes → Option Told
-key_by kinds.Tag rest = tag_told rest
-key_by kinds.Lms rest = lms_told rest
-
 -- the present seal part, or the bytes of another
 abbrev pub part_told : Option Bytes → Option Told
 part_told None = Some part
@@ -159,7 +131,7 @@ told_by verbs.Digest rest = last_as algorithm_of digest rest
 told_by verbs.Family rest = option_map family (family_named rest)
 told_by verbs.Choose rest = next_as count_of (λ n. last_as count_of (choose n)) rest
 told_by verbs.Rows rest = last_as count_of rows rest
-told_by verbs.Key rest = next_as key_kind_of key_by rest
+told_by verbs.Key rest = option_map key (key_told rest)
 told_by verbs.Draw rest = alone draw rest
 told_by verbs.Burn rest = alone burn rest
 told_by verbs.Seal rest = option_map seal (room_in seal_room max_room rest)

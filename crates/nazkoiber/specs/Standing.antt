@@ -3,8 +3,8 @@ use Rattle.std.specs.Prelude.{ℕ, Bool, true, false, Some, None, is_ok, vec_ite
 use Rattle.std.specs.declared.alloc.Global.{Global}
 use Rattle.seals.specs.Scheme.{inspection}
 use Rattle.seals.specs.Calls.{accept_answer}
-use Rattle.nazkoiber.specs.Keys.{key_kind, key_says}
-use Rattle.nazkoiber.specs.declared.key.AnyKey.{AnyKey}
+use Rattle.keyfiles.specs.Keys.{key_kind, key_says}
+use Rattle.keyfiles.specs.declared.key.AnyKey.{AnyKey}
 
 -- where a seal part is accepted, it is there, and so is the key that accepts it
 abbrev pub stands : Bool → Option AnyKey → Option (Vec ℕ Global) → Bool

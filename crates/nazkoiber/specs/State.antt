@@ -3,26 +3,14 @@ use Rattle.std.specs.Prelude.{ℕ, Bool, false, List, [], Some, None, vec_items,
 use Rattle.std.specs.Option.{option_map}
 use Rattle.families.specs.Any.{any_shape}
 use Rattle.families.specs.Shape.{Shape}
-use Rattle.keys.specs.Key.{Key}
 use Rattle.scripts.specs.Words.{Bytes}
 use Rattle.seals.specs.Scheme.{Scheme, scheme}
 use Rattle.sheets.specs.Blocks.{blocks_of}
 use Rattle.told.specs.Algorithms.{digest_by}
 use Rattle.told.specs.declared.algorithm.Algorithm.{Algorithm}
 use Rattle.told.specs.declared.algorithm.Algorithm.TheVariants.{Sha256, Blake2s}
-use Rattle.nazkoiber.specs.Keys.{key_kind, key_says, key_of, key_signature}
-use Rattle.nazkoiber.specs.declared.key.AnyKey.{AnyKey}
+use Rattle.keyfiles.specs.Making.{Held, held}
 use Rattle.nazkoiber.specs.declared.bench.Bench.{Bench}
-
--- a key that is at hand: what it says to signatures, what it signs, and its numbers
-pub record Held : Type 0 where
-  pub kind : ℕ
-  pub says : ℕ → Bytes → Bytes → Bool
-  pub signature : ℕ → Bytes → Bytes
-  pub key : Key
-
-abbrev pub held : AnyKey → Held
-held k = record { kind = key_kind k; says = key_says k; signature = key_signature k; key = key_of k }
 
 pub record State : Type 0 where
   pub blocks : List Bytes

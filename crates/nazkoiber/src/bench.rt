@@ -10,9 +10,9 @@ pub mod run;
 pub mod seal_calls;
 pub mod sheet_calls;
 
-use crate::key::AnyKey;
 use answers::Refusal;
 use families::any::AnyFamily;
+use keyfiles::AnyKey;
 use keys::Drawn;
 use sheets::Sheet;
 use std::alloc::{AllocError, Global};

@@ -8,10 +8,11 @@ ghost use Rattle.scripts.specs.Reading.{Reads};
 ghost use Rattle.told.specs.Algorithms.{algorithm_of};
 ghost use Rattle.told.specs.Names.{count_of};
 ghost use Rattle.nazkoiber.specs.declared.call.Verb.TheVariants as verbs;
-ghost use Rattle.nazkoiber.specs.Script.{told, verb_of, told_by, key_kind_of, tag_told, lms_told, part_told, room_in, line_told};
+ghost use Rattle.nazkoiber.specs.Script.{told, verb_of, told_by, part_told, room_in, line_told};
 
 use answers::{BlockNumber, RowNumber};
-use scripts::{ParseError, Words, decode_array, decode_hex, parse_number};
+use keyfiles::KeyWords;
+use scripts::{ParseError, Words, decode_hex, parse_number};
 use std::alloc::Global;
 use told::{Algorithm, FamilyName, parse_count};
 
@@ -28,37 +29,6 @@ const CHECK_ROOM: usize = 512;
 const EXCERPT_ROOM: usize = 2 * 65_535;
 
 const FILE_ROOM: usize = 262_144;
-
-// A tag key by its words: the digest, the secret, the name and the next number.
-#[derive(Clone, Copy)]
-pub struct TagWords {
-    pub digest: Algorithm,
-    pub secret: [u8; 32],
-    pub name: [u8; 8],
-    pub next: u32,
-}
-
-// An LMS key: the identifier, the seed and the next number.
-#[derive(Clone, Copy)]
-pub struct LmsWords {
-    pub id: [u8; 16],
-    pub seed: [u8; 32],
-    pub next: u32,
-}
-
-// A key by its words.
-#[derive(Clone, Copy)]
-pub enum KeyWords {
-    Tag(TagWords),
-    Lms(LmsWords),
-}
-
-// The first word behind `key`.
-#[derive(Clone, Copy)]
-enum KeyKind {
-    Tag,
-    Lms,
-}
 
 // A script line that was taken apart.
 #[derive(Drop)]
@@ -178,7 +148,7 @@ impl Verb {
             Verb::Family => Ok(Call::Family(FamilyName::parse(words)?)),
             Verb::Choose => parse_choose(words),
             Verb::Rows => Ok(Call::Rows(block_number(words.last_word()?)?)),
-            Verb::Key => parse_key(alloc, words),
+            Verb::Key => Ok(Call::Key(KeyWords::parse(alloc, words)?)),
             Verb::Draw => alone(words, Call::Draw),
             Verb::Burn => alone(words, Call::Burn),
             Verb::Seal => Ok(Call::Seal(parse_room(words, SEAL_ROOM, MAX_ROOM)?)),
@@ -214,53 +184,6 @@ fn parse_choose(mut words: Words) -> Result<Call, ParseError>
 {
     let n = parse_count(words.next_word()?)?;
     Ok(Call::Choose(n, parse_count(words.last_word()?)?))
-}
-
-impl KeyKind {
-    #[tactic(auto, using(scripts::proofs::TableLemmas::row_read))]
-    fn named(word: &[u8]) -> Option<KeyKind>
-        ensures { result ≡ key_kind_of word.now }
-    {
-        match word {
-            b"tag" => Some(KeyKind::Tag),
-            b"lms" => Some(KeyKind::Lms),
-            _ => None,
-        }
-    }
-}
-
-fn parse_key(alloc: Global, mut words: Words) -> Result<Call, ParseError>
-    ensures { Reads told (told_by verbs.Key words.entry) result }
-{
-    let kind = KeyKind::named(words.next_word()?).ok_or(ParseError::NotUnderstood)?;
-    match kind {
-        KeyKind::Tag => parse_tag(alloc, words),
-        KeyKind::Lms => parse_lms(alloc, words),
-    }
-}
-
-fn parse_tag(alloc: Global, mut words: Words) -> Result<Call, ParseError>
-    ensures { Reads told (tag_told words.entry) result }
-{
-    let digest = algorithm(words.next_word()?)?;
-    let secret = decode_array::<32>(alloc, words.next_word()?)?;
-    let name = decode_array::<8>(alloc, words.next_word()?)?;
-    let next = parse_number(words.last_word()?, u32::MAX).ok_or(ParseError::NotUnderstood)?;
-    Ok(Call::Key(KeyWords::Tag(TagWords {
-        digest,
-        secret,
-        name,
-        next,
-    })))
-}
-
-fn parse_lms(alloc: Global, mut words: Words) -> Result<Call, ParseError>
-    ensures { Reads told (lms_told words.entry) result }
-{
-    let id = decode_array::<16>(alloc, words.next_word()?)?;
-    let seed = decode_array::<32>(alloc, words.next_word()?)?;
-    let next = parse_number(words.last_word()?, u32::MAX).ok_or(ParseError::NotUnderstood)?;
-    Ok(Call::Key(KeyWords::Lms(LmsWords { id, seed, next })))
 }
 
 fn parse_part(alloc: Global, words: Words) -> Result<Call, ParseError>

@@ -3,7 +3,6 @@
 
 mod bench;
 mod call;
-mod key;
 
 use bench::run::replay;
 use std::io::{Read, Write};

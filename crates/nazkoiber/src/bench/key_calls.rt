@@ -1,23 +1,18 @@
 // Calls that say by what is sealed: the digest, the family, the key and its numbers.
-ghost use Rattle.std.specs.Prelude.{◌≡◌};
-ghost use Rattle.std.specs.Result.{result_map_both};
 ghost use Rattle.families.specs.Any.{any_shape};
-ghost use Rattle.keys.specs.Tag.{tag_key_answer};
-ghost use Rattle.lms.specs.Key.{lms_key_answer};
+ghost use Rattle.keyfiles.specs.Making.{held};
 ghost use Rattle.nazkoiber.specs.Script.{digest, family, choose, rows, key, draw, burn};
-ghost use Rattle.nazkoiber.specs.State.{held, state};
-ghost use Rattle.nazkoiber.specs.Answering.{Answered, FamilyTaken, KeyTaken, key_answer, tag_held, lms_held};
+ghost use Rattle.nazkoiber.specs.State.{state};
+ghost use Rattle.nazkoiber.specs.Answering.{Answered, FamilyTaken, KeyTaken};
 
 use super::{Bench, Missing, Stop};
-use crate::call::{KeyWords, LmsWords, TagWords};
-use crate::key::AnyKey;
-use answers::{BlockNumber, Refusal};
+use answers::BlockNumber;
 use blake2s::Blake2s;
 use digests::Digest;
 use families::any::AnyFamily;
 use families::choose::choose;
-use keys::{Inspector, Sealer, TagKey, burn, draw};
-use lms::LmsKey;
+use keyfiles::{AnyKey, KeyWords};
+use keys::{Inspector, Sealer, burn, draw};
 use scripts::Hex;
 use sha256::Sha256;
 use told::{Algorithm, FamilyName, family_text, rows_text};
@@ -64,7 +59,7 @@ impl Bench {
     pub(super) fn set_key(&mut self, words: KeyWords) -> Result<String, Stop>
         ensures { Answered (key words) (state self.old) (state self.new) result }
     {
-        self.take_key(make_key(words)?)
+        self.take_key(words.make()?)
     }
 
     // Another key takes the acceptance back.
@@ -100,36 +95,5 @@ impl Bench {
         let drawn = self.hand.take().ok_or(Missing::HandEmpty)?;
         let number = burn(drawn);
         Ok(format!(in self.alloc; "burned {number}")?)
-    }
-}
-
-fn make_key(words: KeyWords) -> Result<AnyKey, Refusal>
-    ensures { result_map_both held (λ e. e) result ≡ key_answer words }
-{
-    match words {
-        KeyWords::Tag(words) => make_tag_key(words),
-        KeyWords::Lms(words) => make_lms_key(words),
-    }
-}
-
-fn make_lms_key(words: LmsWords) -> Result<AnyKey, Refusal>
-    ensures { result_map_both held (λ e. e) result ≡ result_map_both (λ made. lms_held words made.2) (λ e. e) (lms_key_answer words.id words.seed words.next) }
-{
-    let LmsWords { id, seed, next } = words;
-    Ok(AnyKey::Lms(LmsKey::new(id, seed, next)?))
-}
-
-fn make_tag_key(words: TagWords) -> Result<AnyKey, Refusal>
-    ensures { result_map_both held (λ e. e) result ≡ result_map_both (λ made. tag_held words made.1) (λ e. e) (tag_key_answer words.secret words.name words.next) }
-{
-    let TagWords {
-        digest,
-        secret,
-        name,
-        next,
-    } = words;
-    match digest {
-        Algorithm::Sha256 => Ok(AnyKey::TagSha256(TagKey::new(secret, name, next)?)),
-        Algorithm::Blake2s => Ok(AnyKey::TagBlake2s(TagKey::new(secret, name, next)?)),
     }
 }

@@ -9,16 +9,16 @@ ghost use Rattle.seals.specs.Part.{signed_part};
 ghost use Rattle.seals.specs.Calls.{seal_answer, accept_answer, check_answer, vouch_answer, confirm_answer, lent_after};
 ghost use Rattle.scripts.specs.Hex.{hex_text};
 ghost use Rattle.sheets.specs.Blocks.{blocks_of};
-ghost use Rattle.nazkoiber.specs.Keys.{key_kind, key_says, key_of, key_signature};
+ghost use Rattle.keyfiles.specs.Keys.{key_kind, key_says, key_of, key_signature};
 ghost use Rattle.nazkoiber.specs.Script.{seal, part, set_part, accept, check, vouch, excerpt, confirm};
 ghost use Rattle.nazkoiber.specs.State.{state, scheme_by};
 ghost use Rattle.nazkoiber.specs.Answering.{Answered, ready};
 
 use super::{Bench, Missing, Stop};
-use crate::key::AnyKey;
 use answers::{BlockNumber, Refusal, RowNumber};
 use blake2s::Blake2s;
 use families::any::AnyFamily;
+use keyfiles::AnyKey;
 use keys::{Drawn, Sealer};
 use scripts::Hex;
 use seals::{Accepted, accept, seal};

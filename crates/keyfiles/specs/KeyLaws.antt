@@ -11,11 +11,11 @@ use Rattle.lms.specs.KeyLaw as lms_laws
 use Rattle.std.proofs.lemmas.List.{length-take-le}
 use Rattle.sha256.specs.Sha256.{sha256_of}
 use Rattle.sha256.specs.Hashed.{length_sha256_of}
-use Rattle.nazkoiber.specs.declared.key.AnyInspector.{AnyInspector}
-use Rattle.nazkoiber.specs.declared.key.AnyInspector.TheVariants as inspectors
-use Rattle.nazkoiber.specs.declared.key.AnyKey.{AnyKey}
-use Rattle.nazkoiber.specs.declared.key.AnyKey.TheVariants as keys
-use Rattle.nazkoiber.specs.Keys.{inspector_kind, inspector_says, key_kind, key_says, key_of, key_signature, KeyOwns}
+use Rattle.keyfiles.specs.declared.key.AnyInspector.{AnyInspector}
+use Rattle.keyfiles.specs.declared.key.AnyInspector.TheVariants as inspectors
+use Rattle.keyfiles.specs.declared.key.AnyKey.{AnyKey}
+use Rattle.keyfiles.specs.declared.key.AnyKey.TheVariants as keys
+use Rattle.keyfiles.specs.Keys.{inspector_kind, inspector_says, key_kind, key_says, key_of, key_signature, KeyOwns}
 
 pub inspector_range : (i : AnyInspector) → (1 ≤ inspector_kind i) × (inspector_kind i ≤ 255)
 inspector_range (inspectors.TagSha256 i) = (omega arith, omega arith)

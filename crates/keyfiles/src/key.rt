@@ -1,7 +1,7 @@
-// A key of any kind, for scripts that name the kind as they run.
+// A key of any kind, for programs that are told the kind as they run.
 ghost use Rattle.std.specs.Prelude.{◌≡◌, length};
-ghost use Rattle.nazkoiber.specs.Keys.{inspector_kind, inspector_says, key_kind, key_says, key_of, key_signature, KeyOwns};
-ghost use Rattle.nazkoiber.specs.KeyLaws.{inspector_range, key_range, key_lawful, key_sized, key_genuine, own_alike};
+ghost use Rattle.keyfiles.specs.Keys.{inspector_kind, inspector_says, key_kind, key_says, key_of, key_signature, KeyOwns};
+ghost use Rattle.keyfiles.specs.KeyLaws.{inspector_range, key_range, key_lawful, key_sized, key_genuine, own_alike};
 
 use answers::Refusal;
 use blake2s::Blake2s;

@@ -8,10 +8,10 @@ use Rattle.keys.specs.Tag.{tag_says, tag_key}
 use Rattle.lms.specs.Key.{lms_key}
 use Rattle.lms.specs.Lms.{public_key, lms_root, lms_sign, lms_says}
 use Rattle.sha256.specs.Sha256.{sha256_of}
-use Rattle.nazkoiber.specs.declared.key.AnyInspector.{AnyInspector}
-use Rattle.nazkoiber.specs.declared.key.AnyInspector.TheVariants as inspectors
-use Rattle.nazkoiber.specs.declared.key.AnyKey.{AnyKey}
-use Rattle.nazkoiber.specs.declared.key.AnyKey.TheVariants as keys
+use Rattle.keyfiles.specs.declared.key.AnyInspector.{AnyInspector}
+use Rattle.keyfiles.specs.declared.key.AnyInspector.TheVariants as inspectors
+use Rattle.keyfiles.specs.declared.key.AnyKey.{AnyKey}
+use Rattle.keyfiles.specs.declared.key.AnyKey.TheVariants as keys
 
 abbrev pub inspector_kind : AnyInspector → ℕ
 inspector_kind (inspectors.TagSha256 i) = 1

@@ -1,6 +1,6 @@
 use Rattle.std.proofs.Common.{refl}
-use Rattle.nazkoiber.specs.declared.key.AnyInspector.TheVariants.{TagSha256, TagBlake2s, Lms}
-use Rattle.nazkoiber.proofs.key.AnyKeySealer.draw_number.Goals as goal
+use Rattle.keyfiles.specs.declared.key.AnyInspector.TheVariants.{TagSha256, TagBlake2s, Lms}
+use Rattle.keyfiles.proofs.key.AnyKeySealer.draw_number.Goals as goal
 
 pub returns-in-TagSha256-clause-kept : goal.returns-in-TagSha256-clause-kept
 returns-in-TagSha256-clause-kept c =

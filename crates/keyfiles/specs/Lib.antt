@@ -1,0 +1,5 @@
+pub mod Keys
+pub mod Words
+pub mod Making
+-- Proofs of laws: an impl cites them, and it can cite nothing of proofs/. No contract rests on what they say.
+pub mod KeyLaws
