@@ -1,0 +1,4 @@
+pub mod Named
+pub mod Opened
+pub mod Made
+pub mod Stopped
