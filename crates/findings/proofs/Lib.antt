@@ -1,0 +1,3 @@
+pub mod Printable
+pub mod Suspects
+pub mod Opened

@@ -1,0 +1,5 @@
+pub mod Lines
+pub mod Head
+pub mod Refused
+pub mod Checked
+pub mod Sealed
