@@ -1,3 +1,2 @@
 pub mod Acceptance
 pub mod Named
-pub mod Unpacking

@@ -21,7 +21,7 @@ impl Bench {
     }
 
     // The file's seal part is the present one then, and not accepted.
-    #[tactic(auto, using(crate::proofs::Unpacking::part_fits, crate::proofs::Unpacking::part_there))]
+    #[tactic(auto, using(files::proofs::SealPlace::part_fits, files::proofs::SealPlace::part_there))]
     pub(super) fn unpack(&mut self, file: &[u8]) -> Result<String, Stop>
         ensures { Answered (unpack file.now) (state self.old) (state self.new) result }
     {
