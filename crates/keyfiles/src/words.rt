@@ -1,12 +1,10 @@
 // A key by its words, and the key that they make.
 ghost use Rattle.std.specs.Prelude.{◌≡◌};
 ghost use Rattle.std.specs.Result.{result_map_both};
-ghost use Rattle.keys.specs.Tag.{tag_key_answer};
-ghost use Rattle.lms.specs.Key.{lms_key_answer};
 ghost use Rattle.scripts.specs.Reading.{Reads};
 ghost use Rattle.keyfiles.specs.declared.words.KeyWords.TheVariants as key_words;
 ghost use Rattle.keyfiles.specs.Words.{key_kind_of, tag_told, lms_told, key_by, key_told};
-ghost use Rattle.keyfiles.specs.Making.{held, held_by, key_answer};
+ghost use Rattle.keyfiles.specs.Making.{held, key_answer};
 
 use crate::key::AnyKey;
 use answers::Refusal;

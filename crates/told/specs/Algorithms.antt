@@ -9,6 +9,11 @@ use Rattle.told.specs.declared.algorithm.Algorithm.TheVariants.{Sha256, Blake2s}
 abbrev pub algorithm_of : Bytes → Option Algorithm
 algorithm_of = entry_at ((codes "sha256", Sha256) ∷ ((codes "blake2s", Blake2s) ∷ []))
 
+-- the name by which a text tells it
+abbrev pub algorithm_name : Algorithm → Bytes
+algorithm_name Sha256 = codes "sha256"
+algorithm_name Blake2s = codes "blake2s"
+
 -- the digest, which works on 64 bytes at a time
 abbrev pub digest_by : Algorithm → Bytes → Bytes
 digest_by Sha256 text = sha256_of text
