@@ -1,5 +1,5 @@
 -- What each call answers: the library's calls, one after another. Assumes nothing.
-use Rattle.std.specs.Prelude.{ℕ, List, [], length, Ok, Result}
+use Rattle.std.specs.Prelude.{ℕ, List, [], length, Ok, Err, Result}
 use Rattle.answers.specs.declared.Refusal.{Refusal}
 use Rattle.digests.specs.Strings.{Bytes}
 use Rattle.families.specs.Choice.{choose_answer}
@@ -26,6 +26,11 @@ check_file file digest secret room =
     on_ok (key_answer digest secret) (λ key.
     on_ok (opened_answer key file) (λ o.
     on_ok (check_answer o.0.0 o.0.1 o.1 room) (λ named. Ok (named, seal_number o.0.1))))
+
+-- the blocks that a check names
+abbrev pub named_blocks : Result (List ℕ × ℕ) Refusal → Result (List ℕ) Refusal
+named_blocks (Ok r) = Ok r.0
+named_blocks (Err e) = Err e
 
 -- a row by which bytes offered for a block can be told, and the length of its excerpt
 unfoldable pub vouch_file : Bytes → ℕ → Bytes → ℕ → Bytes → Result (ℕ × ℕ) Refusal

@@ -5,7 +5,7 @@ ghost use Rattle.families.specs.Any.{any_shape};
 ghost use Rattle.sheets.specs.Blocks.{blocks_of};
 ghost use Rattle.seals.specs.Calls.{check_answer, vouch_answer, confirm_answer, lent_after};
 ghost use Rattle.embedding.specs.Given.{scheme_by};
-ghost use Rattle.embedding.specs.Calls.{check_file, vouch_file, excerpt_file, confirm_part};
+ghost use Rattle.embedding.specs.Calls.{check_file, named_blocks, vouch_file, excerpt_file, confirm_part};
 ghost use Rattle.embedding.specs.Status.{Answers, Leaves};
 
 use crate::key::Key;
@@ -68,7 +68,7 @@ pub(crate) fn check(
     list: &mut [u16],
 ) -> Result<(usize, u32), Stop>
     ensures answer { Answers (λ r. r) result (result_map_both (λ r. (length r.0, r.1)) (λ e. e) (check_file file.now digest secret.now (length list.old))) }
-    ensures list { Leaves result (result_map_both (λ r. r.0) (λ e. e) (check_file file.now digest secret.now (length list.old))) list.old list.new }
+    ensures list { Leaves result (named_blocks (check_file file.now digest secret.now (length list.old))) list.old list.new }
 {
     let key = Key::new(digest, secret)?;
     let opened = open_file(alloc, &key, file)?;

@@ -1,9 +1,8 @@
 // Seals for programs in C and Rust: calls on numbers and bytes, by tag keys. Each export hands on to a function that answers a `Result`, and turns that into a status.
 #![tactic(auto)]
 
-ghost use Rattle.std.specs.Prelude.{◌≡◌, ◌≢◌};
-
 mod call;
+mod exports;
 mod head;
 mod key;
 mod open;

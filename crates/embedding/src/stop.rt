@@ -1,6 +1,6 @@
 // Why a call has no answer.
 ghost use Rattle.std.specs.Prelude.{◌≡◌};
-ghost use Rattle.embedding.specs.Status.{stop_status};
+ghost use Rattle.embedding.specs.Status.{stop_status, stop_suspects};
 ghost use Rattle.embedding.specs.declared.stop.Stop.TheVariants.{Refused, OutOfMemory};
 
 use answers::Refusal;
@@ -37,6 +37,16 @@ impl Stop {
         match self {
             Stop::Refused(refusal) => refusal.number(),
             Stop::OutOfMemory(_) => OUT_OF_MEMORY,
+        }
+    }
+
+    // How many suspects there are, where there are too many.
+    pub(crate) fn suspects(self) -> Option<u16>
+        ensures { result ≡ stop_suspects self }
+    {
+        match self {
+            Stop::Refused(Refusal::TooManySuspects(count)) => Some(count),
+            _ => None,
         }
     }
 }
