@@ -1,8 +1,7 @@
 -- What a seal under a drawn number leaves.
-use Rattle.std.specs.Prelude.{◌≡◌, ℕ, false, List, [], ◌∷◌, ◌++◌, length, take, drop, Ok, Result, ◌==◌, nat_lt}
+use Rattle.std.specs.Prelude.{◌≡◌, ℕ, false, List, [], ◌∷◌, ◌++◌, length, take, Ok, Result, ◌==◌, nat_lt}
 use Rattle.std.proofs.Common.{sym, ap, ◌∙◌}
 use Rattle.std.proofs.Math.Seq.{take-append_seam}
-use Rattle.std.specs.Result.{result_map_both}
 use Rattle.answers.specs.declared.Refusal.{Refusal}
 use Rattle.answers.specs.declared.Refusal.TheVariants.{NoSuchParameter, NoneLeft}
 use Rattle.answers.specs.Refusals.{unless}
@@ -24,12 +23,12 @@ pub front_of : (xs ys : Bytes) (n : ℕ) → n ≡ length xs → take n (xs ++ y
 front_of xs ys n e = ap (λ k. take k (xs ++ ys)) e ∙ take-append_seam xs ys
 
 -- a seal part, by the steps that made it
-pub sealed_is : (s : Scheme) (block : ℕ) (secret name : Bytes) (next n : ℕ) (bs : List Bytes) (held : Bytes) (before after : Key) (d : Drawn) (sign : Bytes → Bytes)
+pub sealed_is : (s : Scheme) (block : ℕ) (secret name : Bytes) (next n room : ℕ) (bs : List Bytes) (held : Bytes) (before after : Key) (d : Drawn) (sign : Bytes → Bytes)
     → Ok (held, before) ≡ tag_key_answer secret name next → Ok d ≡ token_answer before → after ≡ drawn_once before
-    → Ok n ≡ seal_answer s.family after d.key d.number bs part_room → sign ≡ hmac_of s.digest block held
+    → Ok n ≡ seal_answer s.family after d.key d.number bs room → room ≡ part_room → sign ≡ hmac_of s.digest block held
     → Ok (signed_part s 1 sign d.number bs) ≡ sealed_part s block secret name next bs
 unfolding sealed_part
-sealed_is s block secret name next n bs held before after d sign made drawn is sealed signs =
+sealed_is s block secret name next n room bs held before after d sign made drawn is sealed full signs =
     let m = was_answered ((nat_lt tag_limit next, NoSuchParameter) ∷ []) (secret, tag_key name next) (held, before) (sym made) in
     let t = was_answered ((before.left == 0, NoneLeft) ∷ []) (record { key = before.name; number = before.next; spent = false }) d (sym drawn) in
     let named : d.key ≡ name = ap (λ (x : Drawn). x.key) (sym t.1) ∙ ap (λ (p : Bytes × Key). p.1.name) (sym m.1) in
@@ -40,7 +39,7 @@ sealed_is s block secret name next n bs held before after d sign made drawn is s
     let finish : ℕ → Result ℕ Refusal → Result Bytes Refusal = λ i r. on_ok r (λ _. part secret i) in
     let onward : Key → Result ℕ Refusal → Result Bytes Refusal = λ k r. on_ok r (λ i. finish i (seal_answer s.family (drawn_once k) name i bs part_room)) in
     ap (λ f. ok_bytes (signed_part s 1 f d.number bs)) (signs ∙ ap (λ x. hmac_of s.digest block x) kept)
-    ∙ ap (finish d.number) sealed
+    ∙ ap (finish d.number) (sealed ∙ ap (seal_answer s.family after d.key d.number bs) full)
     ∙ ap (λ k. finish d.number (seal_answer s.family k d.key d.number bs part_room)) is
     ∙ ap (λ x. finish d.number (seal_answer s.family (drawn_once before) x d.number bs part_room)) named
     ∙ ap (λ i. finish i (seal_answer s.family (drawn_once before) name i bs part_room)) numbered

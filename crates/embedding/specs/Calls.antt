@@ -1,5 +1,5 @@
 -- What each call answers: the library's calls, one after another. Assumes nothing.
-use Rattle.std.specs.Prelude.{ℕ, List, [], length, Ok, Err, Result}
+use Rattle.std.specs.Prelude.{ℕ, List, [], Ok, Err, Result}
 use Rattle.answers.specs.declared.Refusal.{Refusal}
 use Rattle.digests.specs.Strings.{Bytes}
 use Rattle.families.specs.Choice.{choose_answer}

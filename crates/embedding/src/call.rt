@@ -22,7 +22,11 @@ impl OpenFile<'_> {
         ensures answer { result ≡ result_map_both length (λ e. e) (check_answer (scheme_by self.now.part.digest (any_shape self.now.part.family)) self.now.part.seal.part.now (blocks_of self.now.sheet) (length list.old)) }
         ensures list { list.new ≡ lent_after (check_answer (scheme_by self.now.part.digest (any_shape self.now.part.family)) self.now.part.seal.part.now (blocks_of self.now.sheet) (length list.old)) list.old }
     {
-        let OpenPart { seal, digest, family } = &self.part;
+        let OpenPart {
+            seal,
+            digest,
+            family,
+        } = &self.part;
         match digest {
             Algorithm::Sha256 => seal.check::<Sha256, _>(&self.sheet, family, list),
             Algorithm::Blake2s => seal.check::<Blake2s, _>(&self.sheet, family, list),
@@ -32,7 +36,11 @@ impl OpenFile<'_> {
     fn vouch(&self, block: BlockNumber, offered: &[u8]) -> Result<(RowNumber, usize), Refusal>
         ensures { result_map_both (λ r. (r.0.0, r.1)) (λ e. e) result ≡ vouch_answer (scheme_by self.now.part.digest (any_shape self.now.part.family)) self.now.part.seal.part.now (blocks_of self.now.sheet) block.0 offered.now }
     {
-        let OpenPart { seal, digest, family } = &self.part;
+        let OpenPart {
+            seal,
+            digest,
+            family,
+        } = &self.part;
         match digest {
             Algorithm::Sha256 => seal.vouch::<Sha256, _>(&self.sheet, family, block, offered),
             Algorithm::Blake2s => seal.vouch::<Blake2s, _>(&self.sheet, family, block, offered),
@@ -50,7 +58,11 @@ impl OpenPart<'_> {
     ) -> Result<(), Refusal>
         ensures { result ≡ confirm_answer (scheme_by self.now.digest (any_shape self.now.family)) self.now.seal.part.now block.0 row.0 offered.now excerpt.now }
     {
-        let OpenPart { seal, digest, family } = self;
+        let OpenPart {
+            seal,
+            digest,
+            family,
+        } = self;
         match digest {
             Algorithm::Sha256 => seal.confirm::<Sha256, _>(family, block, row, offered, excerpt),
             Algorithm::Blake2s => seal.confirm::<Blake2s, _>(family, block, row, offered, excerpt),

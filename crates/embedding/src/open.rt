@@ -45,11 +45,7 @@ pub(crate) fn open_part<'a>(key: &Key, part: &'a [u8]) -> Result<OpenPart<'a>, R
 }
 
 #[tactic(auto, using(crate::proofs::Opening::part_fits, crate::proofs::Opening::part_there), unfolding(crate::specs::Calls::opened_answer))]
-pub(crate) fn open_file<'a>(
-    alloc: Global,
-    key: &Key,
-    file: &'a [u8],
-) -> Result<OpenFile<'a>, Stop>
+pub(crate) fn open_file<'a>(alloc: Global, key: &Key, file: &'a [u8]) -> Result<OpenFile<'a>, Stop>
     ensures { Answers (λ o. ((scheme_by o.part.digest (any_shape o.part.family), o.part.seal.part.now), blocks_of o.sheet)) result (opened_answer (key.now.digest, key.now.secret) file.entry.now) }
 {
     let mut sheet = Sheet::new(alloc)?;

@@ -88,7 +88,14 @@ impl Key {
     {
         match self.digest {
             Algorithm::Sha256 => seal_sheet::<Sha256>(sheet, family, self.secret, name, next, out),
-            Algorithm::Blake2s => seal_sheet::<Blake2s>(sheet, family, self.secret, name, next, out),
+            Algorithm::Blake2s => seal_sheet::<Blake2s>(
+                sheet,
+                family,
+                self.secret,
+                name,
+                next,
+                out,
+            ),
         }
     }
 
