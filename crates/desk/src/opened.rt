@@ -48,7 +48,7 @@ pub fn open_part<'a, I: Inspector>(inspector: &I, part: &'a [u8]) -> Result<Open
     })
 }
 
-#[tactic(auto, using(crate::proofs::Opening::part_fits, crate::proofs::Opening::part_there), unfolding(crate::specs::Opened::file_answer))]
+#[tactic(auto, using(files::proofs::SealPlace::part_fits, files::proofs::SealPlace::part_there), unfolding(crate::specs::Opened::file_answer))]
 pub fn open_file<'a, I: Inspector>(
     alloc: Global,
     inspector: &I,

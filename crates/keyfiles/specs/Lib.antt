@@ -5,3 +5,4 @@ pub mod Files
 pub mod Uses
 -- Proofs of laws: an impl cites them, and it can cite nothing of proofs/. No contract rests on what they say.
 pub mod KeyLaws
+pub mod Drawing
