@@ -1,4 +1,3 @@
 pub mod Given
-pub mod Made
 pub mod Calls
 pub mod Status

@@ -4,8 +4,8 @@ use Rattle.std.specs.Option.{unwrap_or}
 use Rattle.answers.specs.declared.Refusal.{Refusal}
 use Rattle.answers.specs.Refusals.{number_of, values_of}
 use Rattle.seals.specs.Calls.{lent_after}
-use Rattle.embedding.specs.declared.stop.Stop.{Stop}
-use Rattle.embedding.specs.declared.stop.Stop.TheVariants.{Refused, OutOfMemory}
+use Rattle.desk.specs.declared.stop.Stop.{Stop}
+use Rattle.desk.specs.declared.stop.Stop.TheVariants.{Refused, OutOfMemory}
 
 -- 0, or the number of the refusal
 abbrev pub status_of : {A : Type 0} → Result A Refusal → ℕ
@@ -44,13 +44,7 @@ Tells status r = status ≢ out_of_memory → status ≡ status_of r
 abbrev pub Becomes : {A : Type 0} → ℕ → A → A → A → Type 0
 Becomes status then before after = (status ≢ out_of_memory → after ≡ then) × (status ≡ out_of_memory → after ≡ before)
 
--- a call that may lack memory answers this, where it does not
-abbrev pub Answers : {A B : Type 0} → (B → A) → Result B Stop → Result A Refusal → Type 0
-Answers f (Ok b) r = Ok (f b) ≡ r
-Answers f (Err (Refused e)) r = Err e ≡ r
-Answers f (Err (OutOfMemory e)) r = Unit {0}
-
--- and leaves this in what it was lent; where it lacks memory, all is as it was
+-- what a call that may lack memory leaves in what it was lent; where it lacks memory, all is as it was
 abbrev pub Leaves : {B : Type 0} → Result B Stop → Result (List ℕ) Refusal → List ℕ → List ℕ → Type 0
 Leaves (Ok b) r before after = after ≡ lent_after r before
 Leaves (Err (Refused e)) r before after = after ≡ lent_after r before

@@ -1,74 +1,14 @@
-// The calls on a file or a seal part, by the digest that the seal part names.
+// The calls on a file or a seal part, by the digest and the family that the seal part names.
 ghost use Rattle.std.specs.Prelude.{◌≡◌, length};
 ghost use Rattle.std.specs.Result.{result_map_both};
-ghost use Rattle.families.specs.Any.{any_shape};
-ghost use Rattle.sheets.specs.Blocks.{blocks_of};
-ghost use Rattle.seals.specs.Calls.{check_answer, vouch_answer, confirm_answer, lent_after};
-ghost use Rattle.embedding.specs.Given.{scheme_by};
+ghost use Rattle.desk.specs.Stopped.{Answers};
 ghost use Rattle.embedding.specs.Calls.{check_file, named_blocks, vouch_file, excerpt_file, confirm_part};
-ghost use Rattle.embedding.specs.Status.{Answers, Leaves};
+ghost use Rattle.embedding.specs.Status.{Leaves};
 
 use crate::key::Key;
-use crate::open::{OpenFile, OpenPart, open_file, open_part};
-use crate::stop::Stop;
 use answers::{BlockNumber, Refusal, RowNumber};
-use blake2s::Blake2s;
-use sha256::Sha256;
+use desk::{Stop, open_file, open_part};
 use std::alloc::Global;
-use told::Algorithm;
-
-impl OpenFile<'_> {
-    fn check(&self, list: &mut [u16]) -> Result<usize, Refusal>
-        ensures answer { result ≡ result_map_both length (λ e. e) (check_answer (scheme_by self.now.part.digest (any_shape self.now.part.family)) self.now.part.seal.part.now (blocks_of self.now.sheet) (length list.old)) }
-        ensures list { list.new ≡ lent_after (check_answer (scheme_by self.now.part.digest (any_shape self.now.part.family)) self.now.part.seal.part.now (blocks_of self.now.sheet) (length list.old)) list.old }
-    {
-        let OpenPart {
-            seal,
-            digest,
-            family,
-        } = &self.part;
-        match digest {
-            Algorithm::Sha256 => seal.check::<Sha256, _>(&self.sheet, family, list),
-            Algorithm::Blake2s => seal.check::<Blake2s, _>(&self.sheet, family, list),
-        }
-    }
-
-    fn vouch(&self, block: BlockNumber, offered: &[u8]) -> Result<(RowNumber, usize), Refusal>
-        ensures { result_map_both (λ r. (r.0.0, r.1)) (λ e. e) result ≡ vouch_answer (scheme_by self.now.part.digest (any_shape self.now.part.family)) self.now.part.seal.part.now (blocks_of self.now.sheet) block.0 offered.now }
-    {
-        let OpenPart {
-            seal,
-            digest,
-            family,
-        } = &self.part;
-        match digest {
-            Algorithm::Sha256 => seal.vouch::<Sha256, _>(&self.sheet, family, block, offered),
-            Algorithm::Blake2s => seal.vouch::<Blake2s, _>(&self.sheet, family, block, offered),
-        }
-    }
-}
-
-impl OpenPart<'_> {
-    fn confirm(
-        &self,
-        block: BlockNumber,
-        row: RowNumber,
-        offered: &[u8],
-        excerpt: &[u8],
-    ) -> Result<(), Refusal>
-        ensures { result ≡ confirm_answer (scheme_by self.now.digest (any_shape self.now.family)) self.now.seal.part.now block.0 row.0 offered.now excerpt.now }
-    {
-        let OpenPart {
-            seal,
-            digest,
-            family,
-        } = self;
-        match digest {
-            Algorithm::Sha256 => seal.confirm::<Sha256, _>(family, block, row, offered, excerpt),
-            Algorithm::Blake2s => seal.confirm::<Blake2s, _>(family, block, row, offered, excerpt),
-        }
-    }
-}
 
 // Names the changed blocks of a file. Answers their count, and the seal's number.
 #[tactic(auto, unfolding(crate::specs::Calls::check_file))]
@@ -83,7 +23,7 @@ pub(crate) fn check(
     ensures list { Leaves result (named_blocks (check_file file.now digest secret.now (length list.old))) list.old list.new }
 {
     let key = Key::new(digest, secret)?;
-    let opened = open_file(alloc, &key, file)?;
+    let opened = open_file(alloc, &key.inspector(), file)?;
     let count = opened.check(list)?;
     Ok((count, opened.part.seal.number()))
 }
@@ -101,7 +41,7 @@ pub(crate) fn vouch(
     ensures { Answers (λ r. (r.0.0, r.1)) result (vouch_file file.now digest secret.now block.0 offered.now) }
 {
     let key = Key::new(digest, secret)?;
-    let opened = open_file(alloc, &key, file)?;
+    let opened = open_file(alloc, &key.inspector(), file)?;
     Ok(opened.vouch(block, offered)?)
 }
 
@@ -120,8 +60,8 @@ pub(crate) fn excerpt(
     ensures buffer { Leaves result (excerpt_file file.now digest secret.now block.0 row.0 (length out.old)) out.old out.new }
 {
     let key = Key::new(digest, secret)?;
-    let OpenFile { part, sheet } = open_file(alloc, &key, file)?;
-    Ok(part.seal.excerpt(&sheet, &part.family, block, row, out)?)
+    let opened = open_file(alloc, &key.inspector(), file)?;
+    Ok(opened.excerpt(block, row, out)?)
 }
 
 // Tells by a seal part and an excerpt alone whether offered bytes are the sealed ones.
@@ -138,5 +78,5 @@ pub(crate) fn confirm(
     ensures { result ≡ confirm_part part.now digest secret.now block.0 row.0 offered.now excerpt.now }
 {
     let key = Key::new(digest, secret)?;
-    open_part(&key, part)?.confirm(block, row, offered, excerpt)
+    open_part(&key.inspector(), part)?.confirm(block, row, offered, excerpt)
 }

@@ -8,6 +8,7 @@ ghost use Rattle.embedding.specs.Status.{status_of, set_by, counted_by, Tells, B
 
 use crate::call::{check, confirm, excerpt, vouch};
 use crate::packing::{pack, seal_text, unpack};
+use crate::status::{status_of, suspects_of};
 use answers::{BlockNumber, RowNumber};
 use std::alloc::Global;
 
@@ -35,7 +36,7 @@ pub extern "C" fn nazkoiber_seal(
             *size = written;
             DONE
         }
-        Err(stop) => stop.status(),
+        Err(stop) => status_of(stop),
     }
 }
 
@@ -57,7 +58,7 @@ pub extern "C" fn nazkoiber_pack(
             *size = written;
             DONE
         }
-        Err(stop) => stop.status(),
+        Err(stop) => status_of(stop),
     }
 }
 
@@ -79,7 +80,7 @@ pub extern "C" fn nazkoiber_unpack(
             *size = length;
             DONE
         }
-        Err(stop) => stop.status(),
+        Err(stop) => status_of(stop),
     }
 }
 
@@ -106,10 +107,10 @@ pub extern "C" fn nazkoiber_check(
             DONE
         }
         Err(stop) => {
-            if let Some(suspects) = stop.suspects() {
+            if let Some(suspects) = suspects_of(stop) {
                 *count = usize::from(suspects);
             }
-            stop.status()
+            status_of(stop)
         }
     }
 }
@@ -136,7 +137,7 @@ pub extern "C" fn nazkoiber_vouch(
             *size = length;
             DONE
         }
-        Err(stop) => stop.status(),
+        Err(stop) => status_of(stop),
     }
 }
 
@@ -162,7 +163,7 @@ pub extern "C" fn nazkoiber_excerpt(
             *size = written;
             DONE
         }
-        Err(stop) => stop.status(),
+        Err(stop) => status_of(stop),
     }
 }
 

@@ -1,15 +1,14 @@
 // A tag key that is given by the number of its digest and by its secret.
 ghost use Rattle.std.specs.Prelude.{◌≡◌};
 ghost use Rattle.std.specs.Result.{result_map_both};
-ghost use Rattle.seals.specs.Calls.{accept_answer};
-ghost use Rattle.embedding.specs.Given.{key_answer, inspection_by, exactly};
+ghost use Rattle.keyfiles.specs.Keys.{inspector_kind, inspector_says};
+ghost use Rattle.seals.specs.Scheme.{inspection};
+ghost use Rattle.embedding.specs.Given.{key_answer, words_answer, inspection_by, exactly};
 
-use crate::scheme::digest_numbered;
 use answers::Refusal;
-use blake2s::Blake2s;
+use desk::digest_numbered;
+use keyfiles::{AnyInspector, KeyWords, TagWords};
 use keys::TagInspector;
-use seals::{Accepted, accept};
-use sha256::Sha256;
 use told::Algorithm;
 
 #[derive(Clone, Copy)]
@@ -19,7 +18,7 @@ pub(crate) struct Key {
 }
 
 // Bytes of just this length.
-pub(crate) fn read_array<const N: usize>(bytes: &[u8]) -> Result<[u8; N], Refusal>
+fn read_array<const N: usize>(bytes: &[u8]) -> Result<[u8; N], Refusal>
     ensures { result ≡ exactly N bytes.now }
 {
     <[u8; N]>::try_from(bytes).map_err(|_| Refusal::NoSuchParameter)
@@ -34,12 +33,32 @@ impl Key {
         Ok(Key { digest, secret })
     }
 
-    pub(crate) fn accept<'a>(&self, part: &'a [u8]) -> Result<Accepted<'a>, Refusal>
-        ensures { result_map_both (λ a. a.part.now) (λ e. e) result ≡ accept_answer (inspection_by (self.now.digest, self.now.secret)) part.entry.now }
+    pub(crate) fn inspector(&self) -> AnyInspector
+        ensures { inspection (inspector_kind result) (inspector_says result) ≡ inspection_by (self.now.digest, self.now.secret) }
     {
         match self.digest {
-            Algorithm::Sha256 => accept(part, &TagInspector::<Sha256>::new(self.secret)),
-            Algorithm::Blake2s => accept(part, &TagInspector::<Blake2s>::new(self.secret)),
+            Algorithm::Sha256 => AnyInspector::TagSha256(TagInspector::new(self.secret)),
+            Algorithm::Blake2s => AnyInspector::TagBlake2s(TagInspector::new(self.secret)),
         }
     }
+}
+
+// Its digest, and in words that key with a name and the number that it draws next.
+pub(crate) fn key_words(
+    digest: u8,
+    secret: &[u8],
+    name: &[u8],
+    next: u32,
+) -> Result<(Algorithm, KeyWords), Refusal>
+    ensures { result ≡ words_answer digest secret.now name.now next }
+{
+    let Key { digest, secret } = Key::new(digest, secret)?;
+    let name = read_array(name)?;
+    let words = TagWords {
+        digest,
+        secret,
+        name,
+        next,
+    };
+    Ok((digest, KeyWords::Tag(words)))
 }

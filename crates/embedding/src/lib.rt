@@ -3,9 +3,6 @@
 
 mod call;
 mod exports;
-mod head;
 mod key;
-mod open;
 mod packing;
-mod scheme;
-mod stop;
+mod status;

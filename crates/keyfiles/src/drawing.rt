@@ -48,7 +48,7 @@ fn public_part(id: [u8; 16], seed: [u8; 32]) -> KeyFile
 }
 
 impl KeyWords {
-    fn draw(&mut self) -> Result<(AnyKey, Drawn), Refusal>
+    pub fn draw(&mut self) -> Result<(AnyKey, Drawn), Refusal>
         ensures answer { result_map_both (λ d. (held d.0, (d.1.key, d.1.number))) (λ e. e) result ≡ words_drawn self.old }
         ensures words { self.new ≡ words_after self.old }
     {
