@@ -1,9 +1,11 @@
 // Sealing a sheet, and the file of a sheet and its seal part, in memory of their own.
-ghost use Rattle.std.specs.Prelude.{◌≡◌, ◌*◌, ◌+◌, length, Ok, vec_items};
+ghost use Rattle.std.specs.Prelude.{◌≡◌, ◌*◌, ◌+◌, length, Ok, OnOk, vec_items};
 ghost use Rattle.std.specs.Result.{result_map_both};
 ghost use Rattle.families.specs.Any.{any_shape};
 ghost use Rattle.files.specs.File.{pack_answer, file_of};
-ghost use Rattle.seals.specs.Scheme.{scheme};
+ghost use Rattle.seals.specs.Law.{Promised};
+ghost use Rattle.seals.specs.Part.{signed_part};
+ghost use Rattle.seals.specs.Scheme.{scheme, inspection};
 ghost use Rattle.seals.specs.Calls.{part_length};
 ghost use Rattle.sheets.specs.Blocks.{blocks_of};
 ghost use Rattle.desk.specs.Named.{scheme_by};
@@ -32,7 +34,7 @@ const DIGEST: usize = 32;
 // The bytes of a file besides its frames and its seal part.
 const TRAILER: usize = 8;
 
-// The seal part of a sheet under a drawn number. The number is spent, also where the seal is refused.
+// The seal part of a sheet under a drawn number, and what `seal` promises of it. The number is spent, also where the seal is refused.
 #[tactic(auto, unfolding(crate::specs::Made::part_made))]
 pub fn seal_part<S: Sealer>(
     alloc: Global,
@@ -42,7 +44,10 @@ pub fn seal_part<S: Sealer>(
     key: &S,
     drawn: Drawn,
 ) -> Result<Vec<u8>, Stop>
-    ensures { Answers vec_items result (part_made (scheme_by digest (any_shape family.now)) (S.kind key.now) (S.key key.now) (S.signature key.now) drawn.key drawn.number (blocks_of sheet.now)) }
+    ensures answer { Answers vec_items result (part_made (scheme_by digest (any_shape family.now)) (S.kind key.now) (S.key key.now) (S.signature key.now) drawn.key drawn.number (blocks_of sheet.now)) }
+    ensures law { OnOk result ((own : S.Own) → S.owns key.now own
+        → Promised (scheme_by digest (any_shape family.now)) (inspection (S.Own.kind own) (S.Own.says own))
+        (signed_part (scheme_by digest (any_shape family.now)) (S.kind key.now) (S.signature key.now drawn.number) drawn.number (blocks_of sheet.now)) (blocks_of sheet.now)) }
 {
     let length = LEAST + DIGEST * usize::from(family.row_count()) + key.signature_len();
     let mut part = match vec![in alloc; 0; length] {
@@ -65,7 +70,10 @@ fn seal_into<S: Sealer>(
     out: &mut [u8],
 ) -> Result<(), Refusal>
     requires { length out.old ≡ part_length (any_shape family.now).rows (S.key key.now).size }
-    ensures { result_map_both (λ _. out.new) (λ e. e) result ≡ part_made (scheme_by digest (any_shape family.now)) (S.kind key.now) (S.key key.now) (S.signature key.now) drawn.key drawn.number (blocks_of sheet.now) }
+    ensures answer { result_map_both (λ _. out.new) (λ e. e) result ≡ part_made (scheme_by digest (any_shape family.now)) (S.kind key.now) (S.key key.now) (S.signature key.now) drawn.key drawn.number (blocks_of sheet.now) }
+    ensures law { OnOk result ((own : S.Own) → S.owns key.now own
+        → Promised (scheme_by digest (any_shape family.now)) (inspection (S.Own.kind own) (S.Own.says own))
+        (signed_part (scheme_by digest (any_shape family.now)) (S.kind key.now) (S.signature key.now drawn.number) drawn.number (blocks_of sheet.now)) (blocks_of sheet.now)) }
 {
     match digest {
         Algorithm::Sha256 => seal_by::<Sha256, S>(sheet, family, key, drawn, out),
@@ -82,7 +90,10 @@ fn seal_by<D: Digest, S: Sealer>(
     out: &mut [u8],
 ) -> Result<(), Refusal>
     requires { length out.old ≡ part_length (any_shape family.now).rows (S.key key.now).size }
-    ensures { result_map_both (λ _. out.new) (λ e. e) result ≡ part_made (scheme D.digest D.KIND (any_shape family.now)) (S.kind key.now) (S.key key.now) (S.signature key.now) drawn.key drawn.number (blocks_of sheet.now) }
+    ensures answer { result_map_both (λ _. out.new) (λ e. e) result ≡ part_made (scheme D.digest D.KIND (any_shape family.now)) (S.kind key.now) (S.key key.now) (S.signature key.now) drawn.key drawn.number (blocks_of sheet.now) }
+    ensures law { OnOk result ((own : S.Own) → S.owns key.now own
+        → Promised (scheme D.digest D.KIND (any_shape family.now)) (inspection (S.Own.kind own) (S.Own.says own))
+        (signed_part (scheme D.digest D.KIND (any_shape family.now)) (S.kind key.now) (S.signature key.now drawn.number) drawn.number (blocks_of sheet.now)) (blocks_of sheet.now)) }
 {
     match seal::<D, _, _>(sheet, family, key, drawn, out) {
         Ok(_) => Ok(()),
