@@ -7,8 +7,8 @@ use std::io;
 use std::random::RandomSource;
 use store::Access;
 
-// No key file has as many bytes.
-const MAX_KEY: u32 = 1_024;
+// Longer key files are not read.
+pub(crate) const MAX_KEY: u32 = 1_024;
 
 pub(crate) fn new_key<'a>(rt: &HostRuntime, words: &Words<'a>) -> Result<(), Problem<'a>> {
     words.expect(2, &["--name", "--digest"])?;

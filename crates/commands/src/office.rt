@@ -14,7 +14,7 @@ pub(crate) const MAX_TEXT: u32 = 38_912;
 
 const MAX_FILE: u32 = 122_937;
 
-// No excerpt has as many bytes.
+// No excerpt of a sheet has as many bytes.
 const EXCERPT_ROOM: usize = 40_960;
 
 // All bytes of a file, or one more than the call that reads them takes.

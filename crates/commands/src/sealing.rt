@@ -1,4 +1,5 @@
 // Sealing a sheet under a number of a key's file.
+use crate::keeping::MAX_KEY;
 use crate::office::{MAX_TEXT, read, write_new};
 use crate::problem::{Problem, key_problem};
 use crate::words::Words;
@@ -13,8 +14,6 @@ use store::Locked;
 
 // How many changed blocks a check names, where no option says so.
 const CHANGES: u16 = 2;
-
-const MAX_KEY: u32 = 1_024;
 
 pub(crate) fn seal<'a>(rt: &HostRuntime, words: &Words<'a>) -> Result<(), Problem<'a>> {
     words.expect(3, &["--changes", "--digest"])?;

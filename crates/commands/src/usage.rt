@@ -23,11 +23,11 @@ One block, without the sheet
   confirm KEY PART BLOCK ROW TEXT EXCERPT
                              tell by the seal part and the excerpt alone
 Besides
-  demo                       two sheets, told line by line
+  demo                       changes to a sheet, told line by line
   replay                     run a script of calls from standard input
 
-nazkoiber COMMAND --help says more. No command overwrites a file, but that a
-key's file is written anew for each number that it draws.
+nazkoiber COMMAND --help says more of all but replay. No command overwrites a
+file, but that a key's file is written anew for each number that it draws.
 ";
 
 pub(crate) const KEYS: &str = "\
@@ -43,7 +43,7 @@ Makes a key from the system's random source and writes its file, which only
 its owner may read. A tag key signs 1,000,000 seals, and whoever can check
 them can sign. An LMS key signs 32, and its public part can only check.
 
-  --name HEX      the name of a tag key, 8 bytes as 16 hex digits (random)
+  --name HEX      the key's name, 8 bytes as 16 hex digits (random)
   --digest NAME   what a tag key makes its tags by (sha256)
 ";
 

@@ -1,13 +1,14 @@
-// Reading and writing whole files, so that none is ever seen half written. No contract can say what a file holds: that these do so is tested, and by design.
+// Reading and writing whole files, so that none is ever seen half written. No contract can say what a file holds: `reference/try_tool.py` tries it.
 #![tactic(auto)]
 
 use std::fs::{File, OpenOptions};
 use std::io::{Read, Write};
 use std::os::unix::fs::{MetadataExt, OpenOptionsExt};
 use std::path::Path;
+use std::random::RandomSource;
 use std::{fs, io};
 
-// Who may read a file that is made.
+// Whose a file is that is made: the owner's alone, or for all whom the system lets.
 #[derive(Clone, Copy)]
 pub enum Access {
     Owner,
@@ -37,10 +38,24 @@ fn read_file(rt: &HostRuntime, file: File, most: u32) -> io::Result<Vec<u8>> {
 // Makes a file, where none has its name yet.
 pub fn create(rt: &HostRuntime, path: &str, bytes: &[u8], access: Access) -> io::Result<()> {
     let beside = write_beside(rt, path, bytes, access)?;
-    let linked = fs::hard_link(rt, beside.as_str(), path);
+    let placed = place(rt, beside.as_str(), path);
+    // Where it was linked, this is its second name.
     let _ = fs::remove_file(rt, beside.as_str());
-    linked?;
-    sync_folder(rt, path)
+    placed
+}
+
+// A link never takes the place of a file. Where the file system has none, the place is looked at first.
+fn place(rt: &HostRuntime, beside: &str, path: &str) -> io::Result<()> {
+    match fs::hard_link(rt, beside, path) {
+        Ok(()) => {}
+        Err(error) if error.kind() == io::ErrorKind::AlreadyExists => return Err(error),
+        Err(_) if fs::exists(rt, path)? => {
+            return Err(io::Error::from(io::ErrorKind::AlreadyExists));
+        }
+        Err(_) => fs::rename(rt, beside, path)?,
+    }
+    sync_folder(rt, path);
+    Ok(())
 }
 
 // Puts bytes in the place of a file, or makes it. They stand on the disk as a whole before they take the place, so that at any moment the place has all of the old bytes or all of the new.
@@ -50,14 +65,16 @@ pub fn replace(rt: &HostRuntime, path: &str, bytes: &[u8], access: Access) -> io
         let _ = fs::remove_file(rt, beside.as_str());
         return Err(error);
     }
-    sync_folder(rt, path)
+    sync_folder(rt, path);
+    Ok(())
 }
 
-// Writes bytes to a new file in the same folder, and answers its name.
+// Writes bytes to a new file in the same folder, by a name that no other run has, and answers it.
 fn write_beside(rt: &HostRuntime, path: &str, bytes: &[u8], access: Access) -> io::Result<String> {
-    let beside = format!(in rt.alloc(); "{path}.nazkoiber-new")?;
-    // What a run that was cut off has left there.
-    let _ = fs::remove_file(rt, beside.as_str());
+    let mut run = [0; 8];
+    rt.fill_bytes(&mut run)?;
+    let run = u64::from_be_bytes(run);
+    let beside = format!(in rt.alloc(); "{path}.{run:016x}")?;
     if let Err(error) = write_new(rt, beside.as_str(), bytes, access) {
         let _ = fs::remove_file(rt, beside.as_str());
         return Err(error);
@@ -75,13 +92,15 @@ fn write_new(rt: &HostRuntime, path: &str, bytes: &[u8], access: Access) -> io::
     file.sync_all()
 }
 
-// The name of a file is on the disk too once its folder is.
-fn sync_folder(rt: &HostRuntime, path: &str) -> io::Result<()> {
+// The name of a file is on the disk too once its folder is. Not every file system lets a folder be synced, and the bytes are safe by then.
+fn sync_folder(rt: &HostRuntime, path: &str) {
     let folder = match Path::new(path).parent() {
         Some(folder) if !folder.as_str().is_empty() => folder.as_str(),
         _ => ".",
     };
-    File::open(rt, folder)?.sync_all()
+    if let Ok(folder) = File::open(rt, folder) {
+        let _ = folder.sync_all();
+    }
 }
 
 // A file that this program alone works on, until this is let go.
