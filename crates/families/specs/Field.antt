@@ -74,7 +74,6 @@ tabled f q = map (λ x. map (f x) (below q)) (below q)
 abbrev pub modulus : ℕ → ℕ
 modulus e = cond (e == 3) 0b1011 0b10011
 
--- the degree of the modulus, and the modulus
+-- of both degrees
 abbrev pub BinaryFields : Type 0
-BinaryFields =
-    AllByRecursion {X = ℕ × ℕ} (λ f. FieldLaws (2 ^ f.0) (binary_sum f.0) (binary_product f.0 f.1)) ((3, 0b1011) ∷ (4, 0b10011) ∷ [])
+BinaryFields = AllByRecursion (λ e. FieldLaws (2 ^ e) (binary_sum e) (binary_product e (modulus e))) (3 ∷ 4 ∷ [])

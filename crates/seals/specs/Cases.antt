@@ -7,11 +7,10 @@ use Rattle.digests.specs.Strings.{Bytes}
 use Rattle.families.specs.Numbers.{numbers, keep_where}
 use Rattle.families.specs.Family.{touches}
 use Rattle.families.specs.Shape.{Shape}
-use Rattle.families.specs.Field.{binary_product}
 use Rattle.families.specs.Single.{single_holds}
 use Rattle.families.specs.Halves.{halves_shape}
 use Rattle.families.specs.Plane.{plane_shape}
-use Rattle.families.specs.Choice.{numbered_shape, choose_answer}
+use Rattle.families.specs.Choice.{product_of, numbered_shape, choose_answer}
 use Rattle.seals.specs.Images.{framed, row_image, whole_image}
 use Rattle.seals.specs.Scheme.{Scheme, Inspection, scheme, inspection}
 use Rattle.seals.specs.Part.{seal_part}
@@ -110,7 +109,7 @@ cases =
     ∷ (rows_of (numbered_shape 5 3 125) 9, 4 ∷ 10 ∷ 11 ∷ 17 ∷ 23 ∷ [])
     ∷ (rows_of (numbered_shape 5 3 125) 26, 1 ∷ 7 ∷ 15 ∷ 20 ∷ 22 ∷ [])
     -- products in the fields of 8 and 16
-    ∷ (binary_product 3 0b1011 2 4 ∷ binary_product 3 0b1011 7 7 ∷ binary_product 4 0b10011 2 8 ∷ [], 3 ∷ 3 ∷ 3 ∷ [])
+    ∷ (product_of 8 2 4 ∷ product_of 8 7 7 ∷ product_of 16 2 8 ∷ [], 3 ∷ 3 ∷ 3 ∷ [])
     -- choose
     ∷ (told (choose_answer 125 2), 3 ∷ 5 ∷ 3 ∷ [])
     ∷ (told (choose_answer 126 2), 3 ∷ 7 ∷ 4 ∷ [])

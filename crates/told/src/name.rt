@@ -2,7 +2,8 @@
 ghost use Rattle.std.specs.Prelude.{◌≡◌};
 ghost use Rattle.std.specs.Result.{result_map_both};
 ghost use Rattle.families.specs.Any.{any_shape};
-ghost use Rattle.scripts.specs.Reading.{Reads};
+ghost use Rattle.std.specs.Option.{ok_or};
+ghost use Rattle.scripts.specs.declared.error.ParseError.TheVariants.{NotUnderstood};
 ghost use Rattle.told.specs.Names.{kind_of, name_by, family_named, name_answer};
 
 use crate::number::{parse_count, parse_small};
@@ -32,7 +33,7 @@ enum Kind {
 impl FamilyName {
     // The family that all the words left name.
     pub fn parse(mut words: Words) -> Result<FamilyName, ParseError>
-        ensures { Reads (λ n. n) (family_named words.entry) result }
+        ensures { result ≡ ok_or (family_named words.entry) NotUnderstood }
     {
         let word = words.next_word()?;
         let kind = Kind::named(word).ok_or(ParseError::NotUnderstood)?;
@@ -67,7 +68,7 @@ impl Kind {
 
     // Reads the numbers behind the kind.
     fn parse_numbers(self, mut words: Words) -> Result<FamilyName, ParseError>
-        ensures { Reads (λ n. n) (name_by self words.entry) result }
+        ensures { result ≡ ok_or (name_by self words.entry) NotUnderstood }
     {
         match self {
             Kind::Single => Ok(FamilyName::Single(parse_count(words.last_word()?)?)),
