@@ -1,3 +1,4 @@
+pub mod Named
 mod Filled
 mod Rows
 mod Taken

@@ -11,9 +11,13 @@ use Rattle.told.specs.Texts.{family_text, rows_text, text_of}
 abbrev pub family_answer : Option Bytes → Option Bytes
 family_answer words = option_map (λ name. text_of family_text (name_answer name)) (family_named words)
 
+-- the rows of a block, in the family that words name
+abbrev pub rows_named : ℕ → Option Bytes → Option Bytes
+rows_named block words = option_map (λ name. text_of (λ f. rows_text f block) (name_answer name)) (family_named words)
+
 -- a block's number, and a family's name
 abbrev pub rows_answer : Option Bytes → Option Bytes
-rows_answer words = next_as count_of (λ block rest. option_map (λ name. text_of (λ f. rows_text f block) (name_answer name)) (family_named rest)) words
+rows_answer words = next_as count_of rows_named words
 
 -- the family that is chosen for n blocks and strength d
 unfoldable pub chosen_text : ℕ → ℕ → Bytes

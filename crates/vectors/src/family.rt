@@ -4,7 +4,7 @@ ghost use Rattle.std.specs.Result.{result_map_both};
 ghost use Rattle.families.specs.Any.{any_shape};
 ghost use Rattle.scripts.specs.Reading.{Reads};
 ghost use Rattle.told.specs.Texts.{family_text, rows_text, text_of};
-ghost use Rattle.vectors.specs.Families.{family_answer, rows_answer, chosen_text, choice_answer};
+ghost use Rattle.vectors.specs.Families.{family_answer, rows_answer, rows_named, chosen_text, choice_answer};
 
 use answers::{BlockNumber, Refusal};
 use families::any::AnyFamily;
@@ -26,6 +26,12 @@ pub fn answer_rows(alloc: Global, mut words: Words) -> Result<String, ParseError
     ensures { Reads string_bytes (rows_answer words.entry) result }
 {
     let block = BlockNumber(parse_count(words.next_word()?)?);
+    rows_in_family(alloc, words, block)
+}
+
+fn rows_in_family(alloc: Global, words: Words, block: BlockNumber) -> Result<String, ParseError>
+    ensures { Reads string_bytes (rows_named block.0 words.entry) result }
+{
     let name = FamilyName::parse(words)?;
     Ok(print_rows(alloc, name.make(), block)?)
 }
