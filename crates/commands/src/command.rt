@@ -14,6 +14,7 @@ pub(crate) enum Command {
     Show,
     Lines,
     Demo,
+    Replay,
 }
 
 impl Command {
@@ -30,6 +31,7 @@ impl Command {
             b"show" => Some(Command::Show),
             b"lines" => Some(Command::Lines),
             b"demo" => Some(Command::Demo),
+            b"replay" => Some(Command::Replay),
             _ => None,
         }
     }

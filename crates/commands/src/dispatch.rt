@@ -64,6 +64,8 @@ fn run_command<'a>(
         Command::Show => show(rt, &words),
         Command::Lines => lines(rt, &words),
         Command::Demo => demo(rt, &words),
+        // The program runs a script itself: only with other words it comes here.
+        Command::Replay => words.expect(0, &[]),
     }
 }
 

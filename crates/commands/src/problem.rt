@@ -55,7 +55,7 @@ impl Problem<'_> {
     pub fn text(&self, alloc: Global) -> Result<String, AllocError> {
         match self {
             Problem::Usage(what, usage) => format!(in alloc; "{what}\n{usage}"),
-            Problem::File(path, error) => format!(in alloc; "{path}: {error}\n"),
+            Problem::File(path, error) => file_text(alloc, path, error),
             Problem::NotAKey(path) => format!(in alloc; "{path}: not a key file\n"),
             Problem::CannotSeal(path) => {
                 format!(in alloc; "{path}: the public part of a key, which signs no seal\n")
@@ -68,6 +68,18 @@ impl Problem<'_> {
             Problem::OutOfMemory => format!(in alloc; "out of memory\n"),
             Problem::Output(error) => format!(in alloc; "standard output: {error}\n"),
         }
+    }
+}
+
+// The commonest in words of our own, of which one system and another have different ones.
+fn file_text(alloc: Global, path: &str, error: &io::Error) -> Result<String, AllocError> {
+    match error.kind() {
+        io::ErrorKind::AlreadyExists => {
+            format!(in alloc; "{path}: is there already, and is not overwritten\n")
+        }
+        io::ErrorKind::NotFound => format!(in alloc; "{path}: no such file or folder\n"),
+        io::ErrorKind::IsADirectory => format!(in alloc; "{path}: a folder, not a file\n"),
+        _ => format!(in alloc; "{path}: {error}\n"),
     }
 }
 

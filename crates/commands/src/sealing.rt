@@ -9,7 +9,7 @@ use families::family::Family;
 use keyfiles::{AnyKey, KeyFile};
 use keys::{Drawn, burn};
 use sheets::Sheet;
-use std::{fs, io};
+use std::io;
 use store::Locked;
 
 // How many changed blocks a check names, where no option says so.
@@ -23,7 +23,7 @@ pub(crate) fn seal<'a>(rt: &HostRuntime, words: &Words<'a>) -> Result<(), Proble
         None => CHANGES,
         Some(word) => words.number(word)?,
     };
-    refuse_existing(rt, out)?;
+    store::expect_room(rt, out).map_err(|error| Problem::File(out, error))?;
     let alloc = rt.alloc();
     let mut sheet = Sheet::new(alloc)?;
     let count = sheet.cut(&read(rt, text_path, MAX_TEXT)?)?;
@@ -37,15 +37,6 @@ pub(crate) fn seal<'a>(rt: &HostRuntime, words: &Words<'a>) -> Result<(), Proble
     println!(rt;
         "sealed {count} blocks under number {number}: a check names up to {strength} changed blocks"
     ).map_err(|error| Problem::Output(error))
-}
-
-// A number would be lost where the file cannot be written in the end.
-fn refuse_existing<'a>(rt: &HostRuntime, path: &'a str) -> Result<(), Problem<'a>> {
-    match fs::exists(rt, path) {
-        Ok(false) => Ok(()),
-        Ok(true) => Err(Problem::File(path, io::Error::from(io::ErrorKind::AlreadyExists))),
-        Err(error) => Err(Problem::File(path, error)),
-    }
 }
 
 // Draws a number of a key's file. The file says that the number is gone before anything is signed under it, and no other program draws meanwhile.

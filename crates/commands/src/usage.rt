@@ -23,11 +23,11 @@ One block, without the sheet
   confirm KEY PART BLOCK ROW TEXT EXCERPT
                              tell by the seal part and the excerpt alone
 Besides
-  demo                       changes to a sheet, told line by line
+  demo                       two changes to a sheet, told line by line
   replay                     run a script of calls from standard input
 
-nazkoiber COMMAND --help says more of all but replay. No command overwrites a
-file, but that a key's file is written anew for each number that it draws.
+nazkoiber COMMAND --help says more. No command overwrites a file, but that a
+key's file is written anew for each number that it draws.
 ";
 
 pub(crate) const KEYS: &str = "\
@@ -43,7 +43,7 @@ Makes a key from the system's random source and writes its file, which only
 its owner may read. A tag key signs 1,000,000 seals, and whoever can check
 them can sign. An LMS key signs 32, and its public part can only check.
 
-  --name HEX      the key's name, 8 bytes as 16 hex digits (random)
+  --name HEX      the name of the key, 8 bytes as 16 hex digits (random)
   --digest NAME   what a tag key makes its tags by (sha256)
 ";
 
@@ -66,9 +66,11 @@ usage: nazkoiber seal KEY SHEET OUT [--changes D] [--digest sha256|blake2s]
 
 Cuts the text of SHEET into blocks, each line one, seals them under the next
 number of the key, and writes the sealed file OUT. The file of the key is
-written first: a crash loses a number, and never uses one twice.
+written first: a crash loses a number, and never uses one twice. A sheet has at
+most 512 lines and 38,912 bytes.
 
-  --changes D     how many changed blocks a check can name (2)
+  --changes D     how many changed blocks a check can name (2): 1 to 7, or 10 of
+                  up to 121 lines, 12 of up to 169, 15 of up to 256
   --digest NAME   the digest of rows and sheet (sha256)
 ";
 
@@ -85,7 +87,7 @@ usage: nazkoiber rewrite FILE BLOCK TEXT OUT
 
 Writes a sealed file OUT like FILE, with the bytes of the file TEXT for the
 block with that number. The seal stays as it is, so that a check names the
-block.
+block. The end of its line is a part of the block.
 ";
 
 const VOUCH: &str = "\
@@ -93,6 +95,7 @@ usage: nazkoiber vouch KEY FILE BLOCK TEXT
 
 Tells whether the bytes of the file TEXT are those that the block was sealed
 with, whatever is changed elsewhere, and prints the lowest row that shows it.
+The end of its line is a part of the block.
 ";
 
 const EXCERPT: &str = "\
@@ -135,6 +138,12 @@ Tells, line by line, of a plate that is typed in after the test, and of a
 digit that slips from one block to the next.
 ";
 
+const REPLAY: &str = "\
+usage: nazkoiber replay
+
+Runs a script of calls from standard input, and prints what each answered.
+";
+
 impl Command {
     pub(crate) fn usage(self) -> &'static str {
         match self {
@@ -151,6 +160,7 @@ impl Command {
             Command::Show => SHOW,
             Command::Lines => LINES,
             Command::Demo => DEMO,
+            Command::Replay => REPLAY,
         }
     }
 }

@@ -10,10 +10,13 @@ use std::process::ExitCode;
 use std::{env, io};
 
 fn main(rt: HostRuntime) -> io::Result<ExitCode> {
-    let mut given = Vec::new(rt.alloc());
-    for word in env::args(&rt)?.skip(1) {
-        given.push(word)?;
-    }
+    let given = match given_words(&rt) {
+        Ok(given) => given,
+        Err(error) => {
+            eprintln!(rt; "nazkoiber: a word of the command line is not UTF-8 ({error})")?;
+            return Ok(ExitCode::FAILURE);
+        }
+    };
     let mut words = Vec::new(rt.alloc());
     for word in given.iter() {
         words.push(word.as_str())?;
@@ -22,6 +25,14 @@ fn main(rt: HostRuntime) -> io::Result<ExitCode> {
         ["replay"] => Ok(run_replay(&rt)),
         words => run_command(&rt, words),
     }
+}
+
+fn given_words(rt: &HostRuntime) -> io::Result<Vec<String>> {
+    let mut given = Vec::new(rt.alloc());
+    for word in env::args(rt)?.skip(1) {
+        given.push(word)?;
+    }
+    Ok(given)
 }
 
 fn run_command(rt: &HostRuntime, words: &[&str]) -> io::Result<ExitCode> {

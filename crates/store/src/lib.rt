@@ -1,10 +1,10 @@
-// Reading and writing whole files, so that none is ever seen half written. No contract can say what a file holds: `reference/try_tool.py` tries it.
+// Reading and writing whole files, so that none is ever seen half written. No contract can say what a file holds: `reference/try_tool.py` tries these.
 #![tactic(auto)]
 
 use std::fs::{File, OpenOptions};
 use std::io::{Read, Write};
 use std::os::unix::fs::{MetadataExt, OpenOptionsExt};
-use std::path::Path;
+use std::path::{Path, PathBuf};
 use std::random::RandomSource;
 use std::{fs, io};
 
@@ -69,25 +69,43 @@ pub fn replace(rt: &HostRuntime, path: &str, bytes: &[u8], access: Access) -> io
     Ok(())
 }
 
-// Writes bytes to a new file in the same folder, by a name that no other run has, and answers it.
+// Sees that a file can be made there, and leaves none: so that what comes before it is not done in vain.
+pub fn expect_room(rt: &HostRuntime, path: &str) -> io::Result<()> {
+    if path.is_empty() {
+        return Err(io::Error::from(io::ErrorKind::NotFound));
+    }
+    // Also a link that leads nowhere has the name.
+    if fs::symlink_metadata(rt, path).is_ok() {
+        return Err(io::Error::from(io::ErrorKind::AlreadyExists));
+    }
+    let beside = write_beside(rt, path, &[], Access::Owner)?;
+    fs::remove_file(rt, beside.as_str())
+}
+
+// Writes bytes to a new file in the same folder, and answers its name.
 fn write_beside(rt: &HostRuntime, path: &str, bytes: &[u8], access: Access) -> io::Result<String> {
-    let mut run = [0; 8];
-    rt.fill_bytes(&mut run)?;
-    let run = u64::from_be_bytes(run);
-    let beside = format!(in rt.alloc(); "{path}.{run:016x}")?;
-    if let Err(error) = write_new(rt, beside.as_str(), bytes, access) {
+    let beside = name_beside(rt, path)?;
+    let file = OpenOptions::new()
+        .write(true)
+        .create_new(true)
+        .mode(access.mode())
+        .open(rt, beside.as_str())?;
+    if let Err(error) = fill(file, bytes) {
         let _ = fs::remove_file(rt, beside.as_str());
         return Err(error);
     }
     Ok(beside)
 }
 
-fn write_new(rt: &HostRuntime, path: &str, bytes: &[u8], access: Access) -> io::Result<()> {
-    let mut file = OpenOptions::new()
-        .write(true)
-        .create_new(true)
-        .mode(access.mode())
-        .open(rt, path)?;
+// A name that no other run takes: of two that made one file, each would take the other's away.
+fn name_beside(rt: &HostRuntime, path: &str) -> io::Result<String> {
+    let mut bytes = [0; 8];
+    rt.fill_bytes(&mut bytes)?;
+    let number = u64::from_le_bytes(bytes);
+    Ok(format!(in rt.alloc(); "{path}.{number}.nazkoiber-new")?)
+}
+
+fn fill(mut file: File, bytes: &[u8]) -> io::Result<()> {
     file.write_all(bytes)?;
     file.sync_all()
 }
@@ -105,27 +123,37 @@ fn sync_folder(rt: &HostRuntime, path: &str) {
 
 // A file that this program alone works on, until this is let go.
 #[derive(Drop)]
-pub struct Locked<'a> {
-    path: &'a str,
+pub struct Locked {
+    path: PathBuf,
     file: File,
 }
 
-// Locks a file. The lock is on what the name stood for: where another program has put a new file in its place meanwhile, it is refused too.
-pub fn lock<'a>(rt: &HostRuntime, path: &'a str) -> io::Result<Locked<'a>> {
-    let file = File::open(rt, path)?;
-    if file.try_lock().is_err() || file.metadata()?.ino() != fs::metadata(rt, path)?.ino() {
+// Locks a file. The lock is on what the name stood for: where another program has put a new file in its place meanwhile, it is refused too. A symbolic link is followed first, so that what it leads to is replaced. A file with a second name is refused: that name would keep the old bytes.
+pub fn lock(rt: &HostRuntime, path: &str) -> io::Result<Locked> {
+    let path = fs::canonicalize(rt, path)?;
+    let file = File::open(rt, path.as_str())?;
+    let locked = file.try_lock();
+    let found = file.metadata()?;
+    if locked.is_err() || found.ino() != fs::metadata(rt, path.as_str())?.ino() {
         return Err(io::Error::from(io::ErrorKind::ResourceBusy));
+    }
+    // A folder always has more than one; reading it is refused in other words.
+    if found.is_file() && found.nlink() > 1 {
+        return Err(io::Error::new(
+            io::ErrorKind::InvalidInput,
+            "the file has a second name (a hard link), remove one of them",
+        ));
     }
     Ok(Locked { path, file })
 }
 
-impl Locked<'_> {
+impl Locked {
     pub fn read_up_to(&self, rt: &HostRuntime, most: u32) -> io::Result<Vec<u8>> {
         read_file(rt, self.file.try_clone()?, most)
     }
 
     // Puts bytes in its place, that the owner alone may read.
     pub fn replace(&self, rt: &HostRuntime, bytes: &[u8]) -> io::Result<()> {
-        replace(rt, self.path, bytes, Access::Owner)
+        replace(rt, self.path.as_str(), bytes, Access::Owner)
     }
 }
