@@ -1,4 +1,4 @@
-"""Writes lines of calls on the library for C, most of them on spoiled files:
+"""Writes lines of calls on the library for C, most of them refused:
 
     python3 make_embedding_lines.py SEED > lines
     python3 make_embedding_lines.py answers < lines
