@@ -11,7 +11,7 @@ use Rattle.families.specs.Making.{single_answer, halves_answer, plane_answer}
 use Rattle.seals.specs.Head.{head_answer}
 use Rattle.seals.specs.declared.head.PartHead.{PartHead}
 use Rattle.seals.specs.Scheme.{Scheme, scheme}
-use Rattle.told.specs.Algorithms.{digest_by}
+use Rattle.told.specs.Algorithms.{digest_by, digest_number}
 use Rattle.told.specs.declared.algorithm.Algorithm.{Algorithm}
 use Rattle.told.specs.declared.algorithm.Algorithm.TheVariants.{Sha256, Blake2s}
 
@@ -20,13 +20,9 @@ abbrev pub on_ok : {A B : Type 0} → Result A Refusal → (A → Result B Refus
 on_ok (Ok a) f = f a
 on_ok (Err e) f = Err e
 
--- a digest by its number, and its number
+-- a digest by the number that a seal part names it by
 abbrev pub digest_numbered : ℕ → Option Algorithm
 digest_numbered kind = cond (kind == 1) (Some Sha256) (cond (kind == 2) (Some Blake2s) None)
-
-abbrev pub digest_number : Algorithm → ℕ
-digest_number Sha256 = 1
-digest_number Blake2s = 2
 
 -- a digest and a family
 abbrev pub scheme_by : Algorithm → Shape → Scheme

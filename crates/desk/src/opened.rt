@@ -9,15 +9,14 @@ ghost use Rattle.desk.specs.Named.{scheme_by};
 ghost use Rattle.desk.specs.Opened.{part_answer, file_answer};
 ghost use Rattle.desk.specs.Stopped.{Answers};
 
+use crate::by_digest::{check_by, confirm_by, vouch_by};
 use crate::scheme::scheme_of;
 use crate::stop::Stop;
 use answers::{BlockNumber, Refusal, RowNumber};
-use blake2s::Blake2s;
 use families::any::AnyFamily;
 use files::unpack;
 use keys::Inspector;
 use seals::{Accepted, accept};
-use sha256::Sha256;
 use sheets::Sheet;
 use std::alloc::Global;
 use told::Algorithm;
@@ -68,29 +67,15 @@ impl OpenFile<'_> {
         ensures answer { result ≡ result_map_both length (λ e. e) (check_answer (scheme_by self.now.part.digest (any_shape self.now.part.family)) self.now.part.seal.part.now (blocks_of self.now.sheet) (length list.old)) }
         ensures list { list.new ≡ lent_after (check_answer (scheme_by self.now.part.digest (any_shape self.now.part.family)) self.now.part.seal.part.now (blocks_of self.now.sheet) (length list.old)) list.old }
     {
-        let OpenPart {
-            seal,
-            digest,
-            family,
-        } = &self.part;
-        match digest {
-            Algorithm::Sha256 => seal.check::<Sha256, _>(&self.sheet, family, list),
-            Algorithm::Blake2s => seal.check::<Blake2s, _>(&self.sheet, family, list),
-        }
+        let OpenFile { part, sheet } = self;
+        check_by(part.digest, &part.seal, sheet, &part.family, list)
     }
 
     pub fn vouch(&self, block: BlockNumber, offered: &[u8]) -> Result<(RowNumber, usize), Refusal>
         ensures { result_map_both (λ r. (r.0.0, r.1)) (λ e. e) result ≡ vouch_answer (scheme_by self.now.part.digest (any_shape self.now.part.family)) self.now.part.seal.part.now (blocks_of self.now.sheet) block.0 offered.now }
     {
-        let OpenPart {
-            seal,
-            digest,
-            family,
-        } = &self.part;
-        match digest {
-            Algorithm::Sha256 => seal.vouch::<Sha256, _>(&self.sheet, family, block, offered),
-            Algorithm::Blake2s => seal.vouch::<Blake2s, _>(&self.sheet, family, block, offered),
-        }
+        let OpenFile { part, sheet } = self;
+        vouch_by(part.digest, &part.seal, sheet, &part.family, block, offered)
     }
 
     pub fn excerpt(
@@ -122,9 +107,6 @@ impl OpenPart<'_> {
             digest,
             family,
         } = self;
-        match digest {
-            Algorithm::Sha256 => seal.confirm::<Sha256, _>(family, block, row, offered, excerpt),
-            Algorithm::Blake2s => seal.confirm::<Blake2s, _>(family, block, row, offered, excerpt),
-        }
+        confirm_by(*digest, seal, family, block, row, offered, excerpt)
     }
 }

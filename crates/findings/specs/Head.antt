@@ -15,11 +15,11 @@ family_name kind q k =
     (cond (kind == 3) (codes "polynomial q " ++ (decimal q ++ (codes " k " ++ decimal k)))
     (cond (kind == 4) (codes "plane") (other_kind kind))))
 
-unfoldable pub digest_name : ℕ → Bytes
-digest_name kind = cond (kind == 1) (codes "sha256") (cond (kind == 2) (codes "blake2s") (other_kind kind))
+unfoldable pub digest_kind_name : ℕ → Bytes
+digest_kind_name kind = cond (kind == 1) (codes "sha256") (cond (kind == 2) (codes "blake2s") (other_kind kind))
 
-unfoldable pub key_name : ℕ → Bytes
-key_name kind = cond (kind == 1) (codes "tag") (cond (kind == 2) (codes "lms") (other_kind kind))
+unfoldable pub key_kind_name : ℕ → Bytes
+key_kind_name kind = cond (kind == 1) (codes "tag") (cond (kind == 2) (codes "lms") (other_kind kind))
 
 abbrev pub number_line : ℕ → Bytes
 number_line number = codes "seal number " ++ (decimal number ++ codes "\n")
@@ -32,4 +32,4 @@ family_line h =
 
 -- the digest and the key
 unfoldable pub kind_lines : PartHead → Bytes
-kind_lines h = codes "digest " ++ (digest_name h.digest_kind ++ (codes "\nkey " ++ (key_name h.sealer_kind ++ codes "\n")))
+kind_lines h = codes "digest " ++ (digest_kind_name h.digest_kind ++ (codes "\nkey " ++ (key_kind_name h.sealer_kind ++ codes "\n")))

@@ -1,6 +1,6 @@
 // What a seal part says of itself: its number, family, digest and key.
 ghost use Rattle.std.specs.Prelude.{◌≡◌, ◌++◌, Some, OnOk, string_bytes};
-ghost use Rattle.findings.specs.Head.{family_name, digest_name, key_name, family_line, kind_lines};
+ghost use Rattle.findings.specs.Head.{family_name, digest_kind_name, key_kind_name, family_line, kind_lines};
 
 use seals::PartHead;
 use std::alloc::AllocError;
@@ -32,12 +32,12 @@ impl fmt::Display for FamilyName {
 }
 
 #[derive(Clone, Copy)]
-struct DigestName(u8);
+struct DigestKind(u8);
 
-impl fmt::Display for DigestName {
-    ghost output = { λ d. Some (digest_name d.0) };
+impl fmt::Display for DigestKind {
+    ghost output = { λ d. Some (digest_kind_name d.0) };
 
-    #[tactic(auto, unfolding(crate::specs::Head::digest_name))]
+    #[tactic(auto, unfolding(crate::specs::Head::digest_kind_name))]
     fn fmt<W: fmt::Write>(&self, f: &mut fmt::Formatter<W>) -> fmt::Result {
         let kind = self.0;
         match kind {
@@ -49,12 +49,12 @@ impl fmt::Display for DigestName {
 }
 
 #[derive(Clone, Copy)]
-struct KeyName(u8);
+struct KeyKind(u8);
 
-impl fmt::Display for KeyName {
-    ghost output = { λ k. Some (key_name k.0) };
+impl fmt::Display for KeyKind {
+    ghost output = { λ k. Some (key_kind_name k.0) };
 
-    #[tactic(auto, unfolding(crate::specs::Head::key_name))]
+    #[tactic(auto, unfolding(crate::specs::Head::key_kind_name))]
     fn fmt<W: fmt::Write>(&self, f: &mut fmt::Formatter<W>) -> fmt::Result {
         let kind = self.0;
         match kind {
@@ -91,7 +91,7 @@ pub fn push_family(text: &mut String, head: PartHead) -> Result<(), AllocError>
 pub fn push_kinds(text: &mut String, head: PartHead) -> Result<(), AllocError>
     ensures { OnOk result (string_bytes text.new ≡ string_bytes text.old ++ kind_lines head) }
 {
-    let digest = DigestName(head.digest_kind);
-    let key = KeyName(head.sealer_kind);
+    let digest = DigestKind(head.digest_kind);
+    let key = KeyKind(head.sealer_kind);
     writeln!(text, "digest {digest}\nkey {key}")
 }

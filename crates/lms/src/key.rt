@@ -16,7 +16,7 @@ use answers::Refusal;
 use keys::{Inspector, Sealer};
 use sha256::Sha256;
 
-// The tree is kept: it costs some 280,000 hashes, and a signature then 4,400.
+// The tree is kept: it costs some 279,000 hashes, and a signature then 4,400.
 #[derive(Drop)]
 pub struct LmsKey {
     id: [u8; 16],

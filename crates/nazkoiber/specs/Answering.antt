@@ -3,6 +3,7 @@ use Rattle.std.specs.Prelude.{◌≡◌, ℕ, true, cond, List, [], ◌∷◌, �
 use Rattle.std.specs.declared.alloc.Global.{Global}
 use Rattle.answers.specs.declared.Refusal.{Refusal}
 use Rattle.answers.specs.Refusals.{shown_as, spaced}
+use Rattle.desk.specs.Named.{scheme_by}
 use Rattle.families.specs.Shape.{Shape}
 use Rattle.families.specs.Choice.{choose_answer}
 use Rattle.files.specs.File.{pack_answer, unpack_answer, blocks_of_file, seal_of}
@@ -15,6 +16,7 @@ use Rattle.seals.specs.Scheme.{inspection}
 use Rattle.seals.specs.Part.{seal_number, signed_part}
 use Rattle.seals.specs.Calls.{seal_answer, accept_answer, check_answer, vouch_answer, excerpt_answer, confirm_answer}
 use Rattle.sheets.specs.Calls.{total_bytes, with_block, lines, cut_answer, add_answer, rewrite_answer, block_answer, after}
+use Rattle.told.specs.Algorithms.{digest_number}
 use Rattle.told.specs.Names.{name_answer}
 use Rattle.told.specs.Texts.{family_text, rows_text, text_of}
 use Rattle.nazkoiber.specs.declared.bench.Missing.{Missing}
@@ -23,7 +25,7 @@ use Rattle.nazkoiber.specs.declared.bench.Stop.{Stop}
 use Rattle.nazkoiber.specs.declared.bench.Stop.TheVariants.{Refused, Lacking, OutOfMemory}
 use Rattle.nazkoiber.specs.Missed.{missing_text}
 use Rattle.nazkoiber.specs.Script.{Told, clear, cut, add, rewrite, show, sheet, digest, family, choose, rows, key, draw, burn, seal, part, set_part, accept, check, vouch, excerpt, confirm, pack, unpack, line_told}
-use Rattle.nazkoiber.specs.State.{State, with_blocks, with_digest, with_family, with_key, with_part, with_hand, with_acceptance, digest_kind, scheme_by}
+use Rattle.nazkoiber.specs.State.{State, with_blocks, with_digest, with_family, with_key, with_part, with_hand, with_acceptance}
 
 -- a text made of what is there, or what is missing
 abbrev pub given : {A : Type 0} → Option A → Missing → (A → Bytes) → Bytes
@@ -53,7 +55,7 @@ answer_text (add bytes) s = text_of (λ n. codes "block " ++ decimal n.0) (add_a
 answer_text (rewrite j bytes) s = text_of (λ n. codes "total " ++ decimal n) (rewrite_answer s.blocks j bytes)
 answer_text (show j) s = text_of (λ b. codes "block " ++ hex_text b) (block_answer s.blocks j)
 answer_text sheet s = codes "blocks " ++ (decimal (length s.blocks) ++ (codes " total " ++ decimal (total_bytes s.blocks)))
-answer_text (digest a) s = codes "digest " ++ decimal (digest_kind a)
+answer_text (digest a) s = codes "digest " ++ decimal (digest_number a)
 answer_text (family name) s = text_of family_text (name_answer name)
 answer_text (choose n d) s = text_of family_text (choose_answer n d)
 answer_text (rows j) s = given s.family NoFamily (λ f. rows_text f j)

@@ -4,11 +4,9 @@ use Rattle.std.specs.Option.{option_map}
 use Rattle.families.specs.Any.{any_shape}
 use Rattle.families.specs.Shape.{Shape}
 use Rattle.scripts.specs.Words.{Bytes}
-use Rattle.seals.specs.Scheme.{Scheme, scheme}
 use Rattle.sheets.specs.Blocks.{blocks_of}
-use Rattle.told.specs.Algorithms.{digest_by}
 use Rattle.told.specs.declared.algorithm.Algorithm.{Algorithm}
-use Rattle.told.specs.declared.algorithm.Algorithm.TheVariants.{Sha256, Blake2s}
+use Rattle.told.specs.declared.algorithm.Algorithm.TheVariants.{Sha256}
 use Rattle.keyfiles.specs.Making.{Held, held}
 use Rattle.nazkoiber.specs.declared.bench.Bench.{Bench}
 
@@ -69,11 +67,3 @@ with_hand s key hand =
 abbrev pub with_acceptance : State → Bool → State
 with_acceptance s accepted =
     record { blocks = s.blocks; digest = s.digest; family = s.family; key = s.key; hand = s.hand; part = s.part; accepted = accepted }
-
--- the number by which a seal names a digest
-abbrev pub digest_kind : Algorithm → ℕ
-digest_kind Sha256 = 1
-digest_kind Blake2s = 2
-
-abbrev pub scheme_by : Algorithm → Shape → Scheme
-scheme_by algorithm family = scheme (digest_by algorithm) (digest_kind algorithm) family

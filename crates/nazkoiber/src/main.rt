@@ -1,10 +1,16 @@
 // `nazkoiber`: keys, sheets and sealed files by commands, and `nazkoiber replay`, which runs a script of calls from standard input and prints what each answered.
 #![tactic(auto)]
 
+ghost use Rattle.std.specs.Prelude.{IfSome, OnOk};
+ghost use Rattle.std.specs.Io.KnownBytes.{Appends};
+ghost use Rattle.nazkoiber.specs.State.{start};
+ghost use Rattle.nazkoiber.specs.Answering.{script_text};
+
 mod bench;
 mod call;
 
 use bench::run::replay;
+use std::alloc::Global;
 use std::io::{Read, Write};
 use std::process::ExitCode;
 use std::{env, io};
@@ -47,7 +53,7 @@ fn run_command(rt: &HostRuntime, words: &[&str]) -> io::Result<ExitCode> {
 }
 
 fn run_replay(rt: &HostRuntime) -> ExitCode {
-    match replay_script(rt) {
+    match replay_input(rt.alloc(), rt.stdin(), &mut rt.stdout()) {
         Ok(()) => ExitCode::SUCCESS,
         Err(error) => {
             let _ = eprintln!(rt; "nazkoiber: {error}");
@@ -56,10 +62,15 @@ fn run_replay(rt: &HostRuntime) -> ExitCode {
     }
 }
 
-fn replay_script(rt: &HostRuntime) -> io::Result<()> {
-    let alloc = rt.alloc();
+// Writes what the calls of the input's script answer.
+fn replay_input<R: Read + Drop, W: Write>(
+    alloc: Global,
+    mut input: R,
+    output: &mut W,
+) -> io::Result<()>
+    ensures { OnOk result (IfSome (R.remaining input) (λ script. Appends (W.contents output.old) (W.contents output.new) (script_text script start))) }
+{
     let mut script = Vec::new(alloc);
-    let _ = rt.stdin().read_to_end(&mut script)?;
-    let out = replay(alloc, &script)?;
-    rt.stdout().write_all(&out)
+    let _ = input.read_to_end(&mut script)?;
+    output.write_all(&replay(alloc, &script)?)
 }

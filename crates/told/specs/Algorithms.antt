@@ -1,5 +1,5 @@
 -- The digests by their names. Assumes nothing.
-use Rattle.std.specs.Prelude.{[], ◌∷◌, codes, Option}
+use Rattle.std.specs.Prelude.{ℕ, [], ◌∷◌, codes, Option}
 use Rattle.blake2s.specs.Blake2s.{blake2s}
 use Rattle.scripts.specs.Words.{Bytes, entry_at}
 use Rattle.sha256.specs.Sha256.{sha256_of}
@@ -14,7 +14,12 @@ abbrev pub algorithm_name : Algorithm → Bytes
 algorithm_name Sha256 = codes "sha256"
 algorithm_name Blake2s = codes "blake2s"
 
--- the digest, which works on 64 bytes at a time
+-- the digest of a text
 abbrev pub digest_by : Algorithm → Bytes → Bytes
 digest_by Sha256 text = sha256_of text
 digest_by Blake2s text = blake2s text
+
+-- the number by which a seal part names it
+abbrev pub digest_number : Algorithm → ℕ
+digest_number Sha256 = 1
+digest_number Blake2s = 2

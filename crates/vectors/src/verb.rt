@@ -16,21 +16,21 @@ use told::Algorithm;
 #[derive(Clone, Copy)]
 enum Verb {
     Digest(Algorithm, Question),
-    // KIND NUMBERS
+    // NAME
     Family,
-    // BLOCK KIND NUMBERS
+    // J NAME
     Rows,
-    // COUNT STRENGTH
+    // N D
     Choose,
-    // DIGEST KEY NAME NEXT TEXT
+    // DIGEST SECRET NAME NEXT HEX
     Tag,
-    // DIGEST KEY NUMBER TEXT SIGNATURE
+    // DIGEST SECRET NUMBER HEX TAG
     Inspect,
     // I SEED
     LmsRoot,
-    // I SEED LEAF TEXT
+    // I SEED LEAF HEX
     LmsSign,
-    // PUBLIC NUMBER TEXT SIGNATURE
+    // PUBLIC NUMBER HEX SIGNATURE
     LmsVerify,
 }
 

@@ -2,21 +2,23 @@
 ghost use Rattle.std.specs.Prelude.{◌≡◌, ◌++◌, length, codes, IfOk, IfErr, string_bytes};
 ghost use Rattle.std.specs.Result.{result_map_both};
 ghost use Rattle.answers.specs.Refusals.{spaced};
+ghost use Rattle.desk.specs.Named.{scheme_by};
 ghost use Rattle.families.specs.Any.{any_shape};
 ghost use Rattle.keys.specs.Key.{buffer_after};
 ghost use Rattle.seals.specs.Scheme.{inspection};
 ghost use Rattle.seals.specs.Part.{signed_part};
-ghost use Rattle.seals.specs.Calls.{seal_answer, accept_answer, check_answer, vouch_answer, confirm_answer, lent_after};
+ghost use Rattle.seals.specs.Calls.{seal_answer, accept_answer};
 ghost use Rattle.scripts.specs.Hex.{hex_text};
 ghost use Rattle.sheets.specs.Blocks.{blocks_of};
 ghost use Rattle.keyfiles.specs.Keys.{key_kind, key_says, key_of, key_signature};
 ghost use Rattle.nazkoiber.specs.Script.{seal, part, set_part, accept, check, vouch, excerpt, confirm};
-ghost use Rattle.nazkoiber.specs.State.{state, scheme_by};
+ghost use Rattle.nazkoiber.specs.State.{state};
 ghost use Rattle.nazkoiber.specs.Answering.{Answered, ready};
 
 use super::{Bench, Missing, Stop};
 use answers::{BlockNumber, Refusal, RowNumber};
 use blake2s::Blake2s;
+use desk::{check_by, confirm_by, vouch_by};
 use families::any::AnyFamily;
 use keyfiles::AnyKey;
 use keys::{Drawn, Sealer};
@@ -142,7 +144,7 @@ impl Bench {
     }
 }
 
-// Each call by the digest that the script has set. Apart from the calls above, since what is known of a choice is lost behind it.
+// By the digest that the script has set. Apart from the call above, since what is known of a choice is lost behind it.
 fn seal_by(
     digest: Algorithm,
     sheet: &Sheet,
@@ -159,55 +161,6 @@ fn seal_by(
     match digest {
         Algorithm::Sha256 => seal::<Sha256, _, _>(sheet, family, key, drawn, out),
         Algorithm::Blake2s => seal::<Blake2s, _, _>(sheet, family, key, drawn, out),
-    }
-}
-
-fn check_by(
-    digest: Algorithm,
-    seal: &Accepted,
-    sheet: &Sheet,
-    family: &AnyFamily,
-    list: &mut [u16],
-) -> Result<usize, Refusal>
-    ensures answer { result ≡ result_map_both length (λ e. e) (check_answer (scheme_by digest (any_shape family.now)) seal.now.part.now (blocks_of sheet.now) (length list.old)) }
-    ensures list { list.new ≡ lent_after (check_answer (scheme_by digest (any_shape family.now)) seal.now.part.now (blocks_of sheet.now) (length list.old)) list.old }
-{
-    match digest {
-        Algorithm::Sha256 => seal.check::<Sha256, _>(sheet, family, list),
-        Algorithm::Blake2s => seal.check::<Blake2s, _>(sheet, family, list),
-    }
-}
-
-fn vouch_by(
-    digest: Algorithm,
-    seal: &Accepted,
-    sheet: &Sheet,
-    family: &AnyFamily,
-    block: BlockNumber,
-    offered: &[u8],
-) -> Result<(RowNumber, usize), Refusal>
-    ensures { result_map_both (λ r. (r.0.0, r.1)) (λ e. e) result ≡ vouch_answer (scheme_by digest (any_shape family.now)) seal.now.part.now (blocks_of sheet.now) block.0 offered.now }
-{
-    match digest {
-        Algorithm::Sha256 => seal.vouch::<Sha256, _>(sheet, family, block, offered),
-        Algorithm::Blake2s => seal.vouch::<Blake2s, _>(sheet, family, block, offered),
-    }
-}
-
-fn confirm_by(
-    digest: Algorithm,
-    seal: &Accepted,
-    family: &AnyFamily,
-    block: BlockNumber,
-    row: RowNumber,
-    offered: &[u8],
-    others: &[u8],
-) -> Result<(), Refusal>
-    ensures { result ≡ confirm_answer (scheme_by digest (any_shape family.now)) seal.now.part.now block.0 row.0 offered.now others.now }
-{
-    match digest {
-        Algorithm::Sha256 => seal.confirm::<Sha256, _>(family, block, row, offered, others),
-        Algorithm::Blake2s => seal.confirm::<Blake2s, _>(family, block, row, offered, others),
     }
 }
 
