@@ -70,3 +70,8 @@ shown_as r = codes "refused" ++ spaced (number_of r ∷ values_of r)
 abbrev pub unless : {A : Type 0} → List (Bool × Refusal) → A → Result A Refusal
 unless [] a = Ok a
 unless (c ∷ cs) a = elim c.0 [ true ↦ Err c.1 | false ↦ unless cs a ]
+
+-- what a call makes of another's answer, unless that one is refused
+abbrev pub on_ok : {A B : Type 0} → Result A Refusal → (A → Result B Refusal) → Result B Refusal
+on_ok (Ok a) f = f a
+on_ok (Err e) f = Err e

@@ -5,6 +5,7 @@ use Rattle.std.proofs.lemmas.Grind.{common_steps}
 use Rattle.std.proofs.lemmas.List.{append-nil, drop_all}
 use Rattle.answers.specs.declared.Refusal.{Refusal}
 use Rattle.answers.specs.declared.Refusal.TheVariants.{NoRoom, SheetEmpty, NotDrawn, OtherScheme}
+use Rattle.answers.specs.Refusals.{on_ok}
 use Rattle.digests.specs.Strings.{Bytes, same}
 use Rattle.files.proofs.Packed.{frames_size, file_size, made}
 use Rattle.files.specs.File.{file_of, pack_answer}
@@ -14,7 +15,6 @@ use Rattle.seals.specs.Scheme.{Scheme}
 use Rattle.seals.specs.Part.{signed_part}
 use Rattle.seals.specs.Calls.{seal_answer, part_length, lent_after}
 use Rattle.sheets.specs.Calls.{total_bytes}
-use Rattle.desk.specs.Named.{on_ok}
 use Rattle.desk.specs.Made.{part_made}
 
 -- what is written in front of nothing

@@ -4,6 +4,7 @@ use Rattle.std.specs.Option.{ok_or}
 use Rattle.std.specs.Result.{result_ok}
 use Rattle.answers.specs.declared.Refusal.{Refusal}
 use Rattle.answers.specs.declared.Refusal.TheVariants.{OtherScheme}
+use Rattle.answers.specs.Refusals.{on_ok}
 use Rattle.digests.specs.Strings.{Bytes}
 use Rattle.families.specs.Shape.{Shape}
 use Rattle.families.specs.Choice.{numbered_answer}
@@ -15,11 +16,6 @@ use Rattle.told.specs.Algorithms.{digest_by, digest_number}
 use Rattle.told.specs.declared.algorithm.Algorithm.{Algorithm}
 use Rattle.told.specs.declared.algorithm.Algorithm.TheVariants.{Sha256, Blake2s}
 
--- what a call makes of another's answer, unless that one is refused
-abbrev pub on_ok : {A B : Type 0} → Result A Refusal → (A → Result B Refusal) → Result B Refusal
-on_ok (Ok a) f = f a
-on_ok (Err e) f = Err e
-
 -- a digest by the number that a seal part names it by
 abbrev pub digest_numbered : ℕ → Option Algorithm
 digest_numbered kind = cond (kind == 1) (Some Sha256) (cond (kind == 2) (Some Blake2s) None)
@@ -28,7 +24,7 @@ digest_numbered kind = cond (kind == 1) (Some Sha256) (cond (kind == 2) (Some Bl
 abbrev pub scheme_by : Algorithm → Shape → Scheme
 scheme_by a f = scheme (digest_by a) (digest_number a) f
 
--- the family of a kind, q, k and n, if there is one
+-- the family of a kind and n, for kind 3 also of q and k, if there is one
 abbrev pub family_named : PartHead → Option Shape
 family_named h =
     cond (h.kind == 1) (result_ok (single_answer h.blocks))

@@ -1,8 +1,9 @@
 -- What each call answers: the library's calls, one after another. Assumes nothing.
 use Rattle.std.specs.Prelude.{ℕ, List, [], Ok, Err, Result}
 use Rattle.answers.specs.declared.Refusal.{Refusal}
+use Rattle.answers.specs.Refusals.{on_ok}
 use Rattle.desk.specs.Made.{part_made}
-use Rattle.desk.specs.Named.{on_ok, scheme_by}
+use Rattle.desk.specs.Named.{scheme_by}
 use Rattle.desk.specs.Opened.{part_answer, file_answer}
 use Rattle.digests.specs.Strings.{Bytes}
 use Rattle.families.specs.Choice.{choose_answer}
@@ -10,7 +11,7 @@ use Rattle.files.specs.File.{pack_answer}
 use Rattle.keyfiles.specs.Drawing.{words_drawn}
 use Rattle.seals.specs.Part.{seal_number}
 use Rattle.seals.specs.Calls.{check_answer, vouch_answer, excerpt_answer, confirm_answer}
-use Rattle.sheets.specs.Calls.{lines, cut_answer}
+use Rattle.sheets.specs.Calls.{text_lines, cut_answer}
 use Rattle.embedding.specs.Given.{key_answer, words_answer, inspection_by}
 
 -- the changed blocks of a file, and the seal's number
@@ -45,7 +46,7 @@ confirm_part part digest secret block row offered excerpt =
 
 -- the file of the blocks that a text is cut into, and a seal part
 unfoldable pub pack_text : Bytes → Bytes → ℕ → Result Bytes Refusal
-pack_text text part room = on_ok (cut_answer [] text) (λ _. pack_answer (lines text) part room)
+pack_text text part room = on_ok (cut_answer [] text) (λ _. pack_answer (text_lines text) part room)
 
 -- the file of a text that is sealed by the family chosen for so many changes, under a number of a tag key
 unfoldable pub seal_text : Bytes → ℕ → ℕ → Bytes → Bytes → ℕ → ℕ → Result Bytes Refusal
@@ -54,5 +55,5 @@ seal_text text digest changes secret name number room =
     on_ok (cut_answer [] text) (λ n.
     on_ok (choose_answer n changes) (λ f.
     on_ok (words_drawn key.1) (λ d.
-    on_ok (part_made (scheme_by key.0 f) d.0.kind d.0.key d.0.signature d.1.0 d.1.1 (lines text)) (λ part.
-    pack_answer (lines text) part room)))))
+    on_ok (part_made (scheme_by key.0 f) d.0.kind d.0.key d.0.signature d.1.0 d.1.1 (text_lines text)) (λ part.
+    pack_answer (text_lines text) part room)))))

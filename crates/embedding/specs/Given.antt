@@ -3,8 +3,8 @@ use Rattle.std.specs.Prelude.{ℕ, not, [], ◌∷◌, length, Ok, Result, ◌==
 use Rattle.std.specs.Option.{ok_or}
 use Rattle.answers.specs.declared.Refusal.{Refusal}
 use Rattle.answers.specs.declared.Refusal.TheVariants.{NoSuchParameter}
-use Rattle.answers.specs.Refusals.{unless}
-use Rattle.desk.specs.Named.{on_ok, digest_numbered}
+use Rattle.answers.specs.Refusals.{unless, on_ok}
+use Rattle.desk.specs.Named.{digest_numbered}
 use Rattle.digests.specs.Strings.{Bytes}
 use Rattle.keyfiles.specs.declared.words.KeyWords.{KeyWords}
 use Rattle.keyfiles.specs.declared.words.KeyWords.TheVariants.{Tag}

@@ -53,7 +53,7 @@ seal_of file = slice_range file (seal_place file) (length file - 8)
 unfoldable pub frames_of : Bytes → Bytes
 frames_of file = take (seal_place file) file
 
--- a file ends with a trailer whose distance leads back to before the trailer and not to the file's start
+-- a file ends with a trailer whose distance is at least the trailer's eight bytes and smaller than the file
 unfoldable pub has_trailer : Bytes → Bool
 has_trailer file =
     nat_le 8 (length file) && (same (drop (length file - 4) file) magic && (nat_le 8 (distance file) && nat_lt (distance file) (length file)))

@@ -10,7 +10,7 @@ use Rattle.std.proofs.lemmas.Bool.Decides.{nat_tests}
 use Rattle.std.proofs.lemmas.Fmt.{decimal_is_IsNumeral}
 use Rattle.std.proofs.lemmas.Str.{digit_value_digit}
 use Rattle.std.proofs.lemmas.Str.Parse.{digit_from_value}
-use Rattle.scripts.specs.Words.{Bytes, first_word, behind_word, is_digit, digits_of, at_most}
+use Rattle.scripts.specs.Words.{Bytes, first_word, behind_word, is_digit, number_behind, at_most}
 use Rattle.scripts.specs.Hex.{hex_digit, pairs_text, hex_text, hex_bytes, of_length, array_of}
 use Rattle.scripts.specs.Reading.{next_as, last_as}
 use Rattle.scripts.proofs.WordLemmas.{number_some}
@@ -70,8 +70,8 @@ array_back n bs l a =
     let all : eqb (length bs) n ≡ true = grind (arith, nat_tests) in
     ap (of_length n) a ∙ cond-true _ _ _ all
 
-digits_back : (n : ℕ) (ds : Bytes) → AllDigits 10 ds → digits_of n ds ≡ Some (digits_value_after 10 n ds)
-unfolding digits_of
+digits_back : (n : ℕ) (ds : Bytes) → AllDigits 10 ds → number_behind n ds ≡ Some (digits_value_after 10 n ds)
+unfolding number_behind
 digits_back n [] a = refl
 digits_back n (c ∷ cs) a =
     let k = digit_from_value c a.0 in
@@ -79,7 +79,7 @@ digits_back n (c ∷ cs) a =
     let high = k.1 in
     let digit : is_digit c ≡ true = grind (arith, nat_tests, low, high) in
     let same : n * 10 + (c - 48) ≡ n * 10 + digit_value c = omega (arith, digit_value_digit c k) in
-    cond-true _ _ _ digit ∙ ap (λ m. digits_of m cs) same ∙ digits_back (n * 10 + digit_value c) cs a.1
+    cond-true _ _ _ digit ∙ ap (λ m. number_behind m cs) same ∙ digits_back (n * 10 + digit_value c) cs a.1
 
 module _ (n : ℕ) (h : n ≤ 4294967295) where
   decimal_wordy : Wordy (decimal n)

@@ -2,6 +2,7 @@
 use Rattle.std.specs.Prelude.{ℕ, ◌+◌, Some, None, Ok, Err, Option, Result}
 use Rattle.std.specs.Result.{result_map_both}
 use Rattle.answers.specs.declared.Refusal.{Refusal}
+use Rattle.answers.specs.Refusals.{on_ok}
 use Rattle.keys.specs.Key.{drawn_once, draw_answer}
 use Rattle.lms.specs.Lms.{lms_root}
 use Rattle.scripts.specs.Words.{Bytes}
@@ -12,20 +13,17 @@ use Rattle.keyfiles.specs.declared.file.KeyFile.TheVariants.{Key, Public}
 use Rattle.keyfiles.specs.declared.words.KeyWords.{KeyWords}
 use Rattle.keyfiles.specs.declared.words.KeyWords.TheVariants.{Tag, Lms}
 
+-- the key after it drew a number
+abbrev pub drawn_from : Held → Held
+drawn_from k = record { kind = k.kind; says = k.says; signature = k.signature; key = drawn_once k.key }
+
 -- a number drawn: the key afterwards, and the number behind the key's name
 abbrev pub drawn_by : Held → Result (Held × (Bytes × ℕ)) Refusal
-drawn_by k =
-    result_map_both (λ number. (record { kind = k.kind; says = k.says; signature = k.signature; key = drawn_once k.key }, (k.key.name, number))) (λ e. e)
-    (draw_answer k.key)
-
--- what a call makes of another's answer, unless that one is refused
-abbrev pub on_made : {A B : Type 0} → Result A Refusal → (A → Result B Refusal) → Result B Refusal
-on_made (Ok a) f = f a
-on_made (Err e) f = Err e
+drawn_by k = result_map_both (λ number. (drawn_from k, (k.key.name, number))) (λ e. e) (draw_answer k.key)
 
 -- the same by the key that words make
 abbrev pub words_drawn : KeyWords → Result (Held × (Bytes × ℕ)) Refusal
-words_drawn w = on_made (key_answer w) drawn_by
+words_drawn w = on_ok (key_answer w) drawn_by
 
 -- by the key in a file: a public part draws none
 abbrev pub file_drawn : KeyFile → Result (Option (Held × (Bytes × ℕ))) Refusal

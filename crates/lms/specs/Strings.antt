@@ -6,7 +6,7 @@ use Rattle.digests.specs.Strings.{Bytes}
 abbrev pub Hash : Type 0
 Hash = Bytes → Bytes
 
--- section 3.1.1: a number as one, two and four bytes, highest byte first
+-- section 3.1: a number as one, two and four bytes, highest byte first
 unfoldable pub u8str : ℕ → Bytes
 u8str x = x % 256 ∷ []
 
@@ -16,7 +16,7 @@ u16str x = x / 256 % 256 ∷ x % 256 ∷ []
 unfoldable pub u32str : ℕ → Bytes
 u32str x = x / 16777216 % 256 ∷ x / 65536 % 256 ∷ x / 256 % 256 ∷ x % 256 ∷ []
 
--- section 3.1.1, strTou32: the number that four bytes stand for
+-- section 3.1, strTou32: the number that four bytes stand for
 unfoldable pub str_to_u32 : Bytes → ℕ
 str_to_u32 s = slice_index s 0 * 16777216 + slice_index s 1 * 65536 + slice_index s 2 * 256 + slice_index s 3
 

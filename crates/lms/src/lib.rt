@@ -37,7 +37,7 @@ pub fn nodes_make_the_tree()
     ensures { NodesMakeTheTree }
 {}
 
-// The small definitions give the RFC's examples.
+// The small definitions give the RFC's examples of coef, and other values.
 #[tactic(auto, using(crate::proofs::Worked::worked_values))]
 pub fn worked_values()
     ensures { WorkedValues }

@@ -7,15 +7,16 @@ use Rattle.desk.specs.Named.{scheme_by}
 use Rattle.families.specs.Shape.{Shape}
 use Rattle.families.specs.Choice.{choose_answer}
 use Rattle.files.specs.File.{pack_answer, unpack_answer, blocks_of_file, seal_of}
-use Rattle.keys.specs.Key.{drawn_once, draw_answer}
+use Rattle.keys.specs.Key.{draw_answer}
 use Rattle.keyfiles.specs.Making.{Held, key_answer}
+use Rattle.keyfiles.specs.Drawing.{drawn_from}
 use Rattle.scripts.specs.Words.{Bytes, first_word}
 use Rattle.scripts.specs.Hex.{hex_text}
 use Rattle.scripts.specs.Lines.{silent, parts_behind}
 use Rattle.seals.specs.Scheme.{inspection}
 use Rattle.seals.specs.Part.{seal_number, signed_part}
 use Rattle.seals.specs.Calls.{seal_answer, accept_answer, check_answer, vouch_answer, excerpt_answer, confirm_answer}
-use Rattle.sheets.specs.Calls.{total_bytes, with_block, lines, cut_answer, add_answer, rewrite_answer, block_answer, after}
+use Rattle.sheets.specs.Calls.{total_bytes, with_block, text_lines, cut_answer, add_answer, rewrite_answer, block_answer, after}
 use Rattle.told.specs.Algorithms.{digest_number}
 use Rattle.told.specs.Names.{name_answer}
 use Rattle.told.specs.Texts.{family_text, rows_text, text_of}
@@ -85,10 +86,6 @@ abbrev pub state_given : {A : Type 0} → Option A → State → (A → State) �
 state_given None s f = s
 state_given (Some a) s f = f a
 
--- the key after it drew a number
-abbrev pub drawn_from : Held → Held
-drawn_from k = record { kind = k.kind; says = k.says; signature = k.signature; key = drawn_once k.key }
-
 -- the number goes into an empty hand
 abbrev pub state_drawn : State → Held → State
 state_drawn s k = cond (is_some s.hand) s (state_by (λ n. with_hand s (Some (drawn_from k)) (Some (k.key.name, n))) s (draw_answer k.key))
@@ -99,7 +96,7 @@ state_sealed s f k h = with_part (with_hand s s.key None) (Some (signed_part (sc
 
 abbrev pub state_after : Told → State → State
 state_after clear s = with_part (with_blocks s []) None
-state_after (cut text) s = with_blocks s (after (cut_answer s.blocks text) (lines text) s.blocks)
+state_after (cut text) s = with_blocks s (after (cut_answer s.blocks text) (text_lines text) s.blocks)
 state_after (add bytes) s = with_blocks s (after (add_answer s.blocks bytes) (s.blocks ++ bytes ∷ []) s.blocks)
 state_after (rewrite j bytes) s = with_blocks s (after (rewrite_answer s.blocks j bytes) (with_block s.blocks j bytes) s.blocks)
 state_after (digest a) s = with_digest s a

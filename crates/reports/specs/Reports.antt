@@ -3,7 +3,7 @@ use Rattle.std.specs.Prelude.{ℕ, ◌+◌, List, [], ◌∷◌, ◌++◌, lengt
 use Rattle.answers.specs.declared.Refusal.{Refusal}
 use Rattle.answers.specs.Refusals.{shown_as}
 use Rattle.sheets.specs.Table.{Bytes}
-use Rattle.sheets.specs.Calls.{lines, cut_answer}
+use Rattle.sheets.specs.Calls.{text_lines, cut_answer}
 
 abbrev pub newline : Bytes
 newline = 10 ∷ []
@@ -28,4 +28,4 @@ report_of (Err e) good = shown_as e ++ newline
 
 -- the report of a text that is cut into a new sheet
 abbrev pub text_report : Bytes → Bytes
-text_report text = report_of (cut_answer [] text) (sheet_report (lines text))
+text_report text = report_of (cut_answer [] text) (sheet_report (text_lines text))

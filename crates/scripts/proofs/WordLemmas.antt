@@ -5,7 +5,7 @@ use Rattle.std.proofs.lemmas.Option.{cond_some}
 use Rattle.std.proofs.lemmas.List.{take_all, at_drop_more, at_drop_all}
 use Rattle.std.proofs.lemmas.Bool.{cond-true, cond-false}
 use Rattle.std.proofs.lemmas.Bool.Decides.{nat_tests}
-use Rattle.scripts.specs.Words.{Bytes, first_word, behind_word, is_digit, decimal_value, digits_of, at_most, number_of}
+use Rattle.scripts.specs.Words.{Bytes, first_word, behind_word, is_digit, decimal_value, number_behind, at_most, number_of}
 
 cond_none : (b : Bool) (n : ℕ) → cond b (Some n) None ≡ None → b ≡ false
 cond_none true n e = cc
@@ -66,30 +66,30 @@ unfolding number_of
 number_none [] most h = refl
 number_none (x ∷ xs) most h = absurd (omega arith)
 
-pub number_some : (word : Bytes) (most : ℕ) → 0 < length word → at_most most (digits_of 0 word) ≡ number_of word most
+pub number_some : (word : Bytes) (most : ℕ) → 0 < length word → at_most most (number_behind 0 word) ≡ number_of word most
 unfolding number_of
 number_some [] most h = absurd (omega arith)
 number_some (x ∷ xs) most h = refl
 
 -- more digits never bring a number down again
-pub past_most : (most n : ℕ) (xs : Bytes) → most < n → None ≡ at_most most (digits_of n xs)
-unfolding digits_of
+pub past_most : (most n : ℕ) (xs : Bytes) → most < n → None ≡ at_most most (number_behind n xs)
+unfolding number_behind
 past_most most n [] h = let e : leb n most ≡ false = grind (arith, nat_tests) in sym (cond-false _ _ _ e)
 past_most most n (x ∷ xs) h =
-    elim (is_digit x) as (λ v. None ≡ at_most most (cond v (digits_of (n * 10 + (x - 48)) xs) None)) [
+    elim (is_digit x) as (λ v. None ≡ at_most most (cond v (number_behind (n * 10 + (x - 48)) xs) None)) [
       | true ↦ past_most most (n * 10 + (x - 48)) xs (omega arith)
       | false ↦ refl
     ]
 
 module _ (word : Bytes) (most n i : ℕ) where
-  digits_at : i < length word → digits_of n (drop i word) ≡ cond (is_digit (get_or word i 0)) (digits_of (n * 10 + (get_or word i 0 - 48)) (drop (i + 1) word)) None
-  unfolding digits_of
-  digits_at h = at_drop_more (digits_of n) word i 0 h
+  digits_at : i < length word → number_behind n (drop i word) ≡ cond (is_digit (get_or word i 0)) (number_behind (n * 10 + (get_or word i 0 - 48)) (drop (i + 1) word)) None
+  unfolding number_behind
+  digits_at h = at_drop_more (number_behind n) word i 0 h
 
-  pub digits_more : (d : ℕ) → i < length word → Some d ≡ decimal_value (get_or word i 0) → digits_of n (drop i word) ≡ digits_of (n * 10 + d) (drop (i + 1) word)
+  pub digits_more : (d : ℕ) → i < length word → Some d ≡ decimal_value (get_or word i 0) → number_behind n (drop i word) ≡ number_behind (n * 10 + d) (drop (i + 1) word)
   digits_more d h e =
       let x = get_or word i 0 in
-      let rest : ℕ → Option ℕ = λ v. digits_of (n * 10 + v) (drop (i + 1) word) in
+      let rest : ℕ → Option ℕ = λ v. number_behind (n * 10 + v) (drop (i + 1) word) in
       let digit : (b : Bool) → Some d ≡ cond b (Some (x - 48)) None → cond b (rest (x - 48)) None ≡ rest d
       = λ b. elim b as (λ v. Some d ≡ cond v (Some (x - 48)) None → cond v (rest (x - 48)) None ≡ rest d) [
         | true ↦ λ s. let same : d ≡ x - 48 = cc in ap rest (sym same)
@@ -97,10 +97,10 @@ module _ (word : Bytes) (most n i : ℕ) where
       ] in
       digits_at h ∙ digit (is_digit x) e
 
-  pub digits_stop : i < length word → None ≡ decimal_value (get_or word i 0) → None ≡ at_most most (digits_of n (drop i word))
+  pub digits_stop : i < length word → None ≡ decimal_value (get_or word i 0) → None ≡ at_most most (number_behind n (drop i word))
   digits_stop h e =
       let x = get_or word i 0 in
-      let rest = digits_of (n * 10 + (x - 48)) (drop (i + 1) word) in
+      let rest = number_behind (n * 10 + (x - 48)) (drop (i + 1) word) in
       let none : (b : Bool) → None ≡ cond b (Some (x - 48)) None → cond b rest None ≡ None
       = λ b. elim b as (λ v. None ≡ cond v (Some (x - 48)) None → cond v rest None ≡ None) [
         | true ↦ λ s. let z : ◌≡◌ {A = ℕ} 0 1 = cc in absurd (omega arith)
@@ -108,10 +108,10 @@ module _ (word : Bytes) (most n i : ℕ) where
       ] in
       sym (ap (at_most most) (digits_at h ∙ none (is_digit x) e))
 
-  pub digits_all : length word ≤ i → n ≤ most → Some n ≡ at_most most (digits_of n (drop i word))
-  unfolding digits_of
+  pub digits_all : length word ≤ i → n ≤ most → Some n ≡ at_most most (number_behind n (drop i word))
+  unfolding number_behind
   digits_all h l =
       let e : leb n most ≡ true = grind (arith, nat_tests) in
-      sym (ap (at_most most) (at_drop_all (digits_of n) word i h) ∙ cond-true _ _ _ e)
+      sym (ap (at_most most) (at_drop_all (number_behind n) word i h) ∙ cond-true _ _ _ e)
 
 pub ruleset number_steps = (number_none, number_some, past_most, digits_more, digits_stop, digits_all)

@@ -24,9 +24,9 @@ abbrev pub decimal_value : ℕ → Option ℕ
 decimal_value x = cond (is_digit x) (Some (x - 48)) None
 
 -- the number of decimal digits that stand behind those of n
-unfoldable pub digits_of : ℕ → Bytes → Option ℕ
-digits_of n [] = Some n
-digits_of n (x ∷ xs) = cond (is_digit x) (digits_of (n * 10 + (x - 48)) xs) None
+unfoldable pub number_behind : ℕ → Bytes → Option ℕ
+number_behind n [] = Some n
+number_behind n (x ∷ xs) = cond (is_digit x) (number_behind (n * 10 + (x - 48)) xs) None
 
 abbrev pub at_most : ℕ → Option ℕ → Option ℕ
 at_most most None = None
@@ -35,7 +35,7 @@ at_most most (Some n) = cond (nat_le n most) (Some n) None
 -- the number of a word of one or more digits, if it is at most so much
 unfoldable pub number_of : Bytes → ℕ → Option ℕ
 number_of [] most = None
-number_of (x ∷ xs) most = at_most most (digits_of 0 (x ∷ xs))
+number_of (x ∷ xs) most = at_most most (number_behind 0 (x ∷ xs))
 
 -- no word more
 abbrev pub alone : {A : Type 0} → A → Option Bytes → Option A

@@ -10,7 +10,7 @@ use Rattle.std.proofs.lemmas.Bool.{false≢true}
 use Rattle.std.proofs.lemmas.Bool.Decides.{nat_tests}
 use Rattle.std.proofs.lemmas.List.{take_at, drop_at, length_push, nil_from_length}
 use Rattle.sheets.specs.Table.{Bytes, pieces, line_ends}
-use Rattle.sheets.specs.Calls.{in_front, lines, all_lines, LinesOf}
+use Rattle.sheets.specs.Calls.{in_front, text_lines, all_lines, LinesOf}
 use Rattle.sheets.proofs.Pieces.{Rises, length_pieces}
 
 not_last : (y : ℕ) (ys : Bytes) → eqb (length (y ∷ ys)) 0 ≡ false
@@ -70,17 +70,17 @@ abbrev begun : Bytes → List Bytes → List Bytes
 begun p [] = []
 begun p (l ∷ ls) = (p ++ l) ∷ ls
 
-some_line : (x : ℕ) (xs : Bytes) → (l : Bytes) × ((ls : List Bytes) × (lines (x ∷ xs) ≡ l ∷ ls))
+some_line : (x : ℕ) (xs : Bytes) → (l : Bytes) × ((ls : List Bytes) × (text_lines (x ∷ xs) ≡ l ∷ ls))
 some_line x xs =
-    elim (eqb x 10) as (λ v. (l : Bytes) × ((ls : List Bytes) × (cond v ((x ∷ []) ∷ lines xs) (in_front x (lines xs)) ≡ l ∷ ls))) [
-      | true ↦ (x ∷ [], (lines xs, refl))
-      | false ↦ elim (lines xs) as (λ v. (l : Bytes) × ((ls : List Bytes) × (in_front x v ≡ l ∷ ls))) [
+    elim (eqb x 10) as (λ v. (l : Bytes) × ((ls : List Bytes) × (cond v ((x ∷ []) ∷ text_lines xs) (in_front x (text_lines xs)) ≡ l ∷ ls))) [
+      | true ↦ (x ∷ [], (text_lines xs, refl))
+      | false ↦ elim (text_lines xs) as (λ v. (l : Bytes) × ((ls : List Bytes) × (in_front x v ≡ l ∷ ls))) [
         | [] ↦ (x ∷ [], ([], refl))
         | l ∷ ls ↦ (x ∷ l, (ls, refl))
       ]
     ]
 
-begun_in_front : (p : Bytes) (x y : ℕ) (ys : Bytes) → begun (p ++ x ∷ []) (lines (y ∷ ys)) ≡ begun p (in_front x (lines (y ∷ ys)))
+begun_in_front : (p : Bytes) (x y : ℕ) (ys : Bytes) → begun (p ++ x ∷ []) (text_lines (y ∷ ys)) ≡ begun p (in_front x (text_lines (y ∷ ys)))
 begun_in_front p x y ys =
     let s = some_line y ys in
     ap (begun (p ++ x ∷ [])) s.1.1 ∙ ap (λ l. l ∷ s.1.0) (append_assoc p (x ∷ []) s.0) ∙ sym (ap (λ ls. begun p (in_front x ls)) s.1.1)
@@ -90,18 +90,18 @@ begun_none [] = refl
 begun_none (l ∷ ls) = refl
 
 -- the text behind p, the line's bytes so far, cut at its line ends, where the line ends with x
-closed : (p : Bytes) (x : ℕ) (xs : Bytes) (start at : ℕ) → at ≡ start + length p → pieces (at + 1) (line_ends (at + 1) xs) xs ≡ begun [] (lines xs)
-    → pieces start ((at + 1) ∷ line_ends (at + 1) xs) (p ++ x ∷ xs) ≡ (p ++ x ∷ []) ∷ lines xs
+closed : (p : Bytes) (x : ℕ) (xs : Bytes) (start at : ℕ) → at ≡ start + length p → pieces (at + 1) (line_ends (at + 1) xs) xs ≡ begun [] (text_lines xs)
+    → pieces start ((at + 1) ∷ line_ends (at + 1) xs) (p ++ x ∷ xs) ≡ (p ++ x ∷ []) ∷ text_lines xs
 closed p x xs start at e rest =
     let line = p ++ x ∷ [] in
     let long : length line ≡ (at + 1) - start = omega (arith, length_push p x) in
     ap (pieces start ((at + 1) ∷ line_ends (at + 1) xs)) (sym (append_assoc p (x ∷ []) xs))
     ∙ ap (λ t. t ∷ pieces (at + 1) (line_ends (at + 1) xs) (drop ((at + 1) - start) (line ++ xs))) (take_at line xs ((at + 1) - start) long)
     ∙ ap (λ t. line ∷ pieces (at + 1) (line_ends (at + 1) xs) t) (drop_at line xs ((at + 1) - start) long)
-    ∙ ap (λ t. line ∷ t) (rest ∙ begun_none (lines xs))
+    ∙ ap (λ t. line ∷ t) (rest ∙ begun_none (text_lines xs))
 
 -- the same wherever the line ends
-cut_at : (p t : Bytes) (start at : ℕ) → at ≡ start + length p → pieces start (line_ends at t) (p ++ t) ≡ begun p (lines t)
+cut_at : (p t : Bytes) (start at : ℕ) → at ≡ start + length p → pieces start (line_ends at t) (p ++ t) ≡ begun p (text_lines t)
 cut_at p [] start at e = refl
 cut_at p (x ∷ []) start at e =
     let cut = closed p x [] start at e refl in
@@ -109,16 +109,16 @@ cut_at p (x ∷ []) start at e =
 cut_at p (x ∷ (y ∷ ys)) start at e =
     let xs = y ∷ ys in
     let here = closed p x xs start at e (cut_at [] (y ∷ ys) (at + 1) (at + 1) (sym (add-zero (at + 1)))) in
-    let on : pieces start (line_ends (at + 1) xs) (p ++ x ∷ xs) ≡ begun p (in_front x (lines xs))
+    let on : pieces start (line_ends (at + 1) xs) (p ++ x ∷ xs) ≡ begun p (in_front x (text_lines xs))
     = ap (pieces start (line_ends (at + 1) xs)) (sym (append_assoc p (x ∷ []) xs))
     ∙ cut_at (p ++ x ∷ []) (y ∷ ys) start (at + 1) (omega (arith, length_push p x)) ∙ begun_in_front p x y ys in
-    let goal : Bool → Bool → Type 0 = λ v w. pieces start (cond (v || w) ((at + 1) ∷ []) [] ++ line_ends (at + 1) xs) (p ++ x ∷ xs) ≡ begun p (cond v ((x ∷ []) ∷ lines xs) (in_front x (lines xs))) in
+    let goal : Bool → Bool → Type 0 = λ v w. pieces start (cond (v || w) ((at + 1) ∷ []) [] ++ line_ends (at + 1) xs) (p ++ x ∷ xs) ≡ begun p (cond v ((x ∷ []) ∷ text_lines xs) (in_front x (text_lines xs))) in
     elim (eqb x 10) as (λ v. goal v (eqb (length xs) 0)) [ true ↦ here | false ↦ subst (goal false) (sym (not_last y ys)) on ]
 
-pub lines_are : (text : Bytes) → pieces 0 (line_ends 0 text) text ≡ lines text
-lines_are text = cut_at [] text 0 0 refl ∙ begun_none (lines text)
+pub lines_are : (text : Bytes) → pieces 0 (line_ends 0 text) text ≡ text_lines text
+lines_are text = cut_at [] text 0 0 refl ∙ begun_none (text_lines text)
 
-pub length_lines : (text : Bytes) → length (lines text) ≡ length (line_ends 0 text)
+pub length_lines : (text : Bytes) → length (text_lines text) ≡ length (line_ends 0 text)
 length_lines text = ap length (sym (lines_are text)) ∙ length_pieces 0 (line_ends 0 text) text
 
 -- the line ends rise to the end of the text
@@ -140,12 +140,12 @@ joined_in_front : (x : ℕ) (ls : List Bytes) → flat_map (λ (l : Bytes). l) (
 joined_in_front x [] = refl
 joined_in_front x (l ∷ ls) = refl
 
-lines_join : (text : Bytes) → flat_map (λ (l : Bytes). l) (lines text) ≡ text
+lines_join : (text : Bytes) → flat_map (λ (l : Bytes). l) (text_lines text) ≡ text
 lines_join [] = refl
 lines_join (x ∷ xs) =
-    elim (eqb x 10) as (λ v. flat_map (λ (l : Bytes). l) (cond v ((x ∷ []) ∷ lines xs) (in_front x (lines xs))) ≡ x ∷ xs) [
+    elim (eqb x 10) as (λ v. flat_map (λ (l : Bytes). l) (cond v ((x ∷ []) ∷ text_lines xs) (in_front x (text_lines xs))) ≡ x ∷ xs) [
       | true ↦ ap (λ t. x ∷ t) (lines_join xs)
-      | false ↦ joined_in_front x (lines xs) ∙ ap (λ t. x ∷ t) (lines_join xs)
+      | false ↦ joined_in_front x (text_lines xs) ∙ ap (λ t. x ∷ t) (lines_join xs)
     ]
 
 fronted : (x : ℕ) (ls : List Bytes) → eqb x 10 ≡ false → all_lines ls ≡ true → all_lines (in_front x ls) ≡ true
@@ -159,12 +159,12 @@ ended_front : (x : ℕ) (ls : List Bytes) → eqb x 10 ≡ true → all_lines ls
 ended_front x [] e h = simp e
 ended_front x (m ∷ ms) e h = simp e h
 
-lines_each : (text : Bytes) → all_lines (lines text) ≡ true
+lines_each : (text : Bytes) → all_lines (text_lines text) ≡ true
 lines_each [] = refl
 lines_each (x ∷ xs) =
-    let goal : Bool → Type 0 = λ v. eqb x 10 ≡ v → all_lines (cond v ((x ∷ []) ∷ lines xs) (in_front x (lines xs))) ≡ true in
-    let both : (v : Bool) → goal v = λ v. elim v as goal [ true ↦ λ e. ended_front x (lines xs) e (lines_each xs) | false ↦ λ e. fronted x (lines xs) e (lines_each xs) ] in
+    let goal : Bool → Type 0 = λ v. eqb x 10 ≡ v → all_lines (cond v ((x ∷ []) ∷ text_lines xs) (in_front x (text_lines xs))) ≡ true in
+    let both : (v : Bool) → goal v = λ v. elim v as goal [ true ↦ λ e. ended_front x (text_lines xs) e (lines_each xs) | false ↦ λ e. fronted x (text_lines xs) e (lines_each xs) ] in
     both (eqb x 10) refl
 
-pub lines_law : (text : Bytes) → LinesOf text (lines text)
+pub lines_law : (text : Bytes) → LinesOf text (text_lines text)
 lines_law text = record { joins = lines_join text; each = lines_each text }

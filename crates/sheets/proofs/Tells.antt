@@ -3,7 +3,7 @@ use Rattle.std.proofs.Common.{◌≡◌, ℕ, ◌+◌, ◌-◌, ◌<◌, ◌≤�
 use Rattle.std.proofs.lemmas.Bool.Decides.{nat_tests}
 use Rattle.answers.specs.declared.Refusal.TheVariants.{SheetFull}
 use Rattle.sheets.specs.Table.{Bytes}
-use Rattle.sheets.specs.Calls.{total_bytes, with_block, no_block, lines, cut_answer, add_answer, rewrite_answer, block_answer}
+use Rattle.sheets.specs.Calls.{total_bytes, with_block, no_block, text_lines, cut_answer, add_answer, rewrite_answer, block_answer}
 
 is_block : (n i : ℕ) → i < n → no_block n (i + 1) ≡ false
 is_block n i h = grind (arith, nat_tests)
@@ -18,7 +18,7 @@ block_ok bs i b h e = simp (is_block (length bs) i h, number_at, e)
 pub block_allows : (bs : List Bytes) (i : ℕ) (b : Bytes) → Ok b ≡ block_answer bs (i + 1) → i < length bs
 block_allows bs i b h = grind (arith, nat_tests)
 
-pub cut_allows : (bs : List Bytes) (text : Bytes) → is_ok (cut_answer bs text) ≡ true → (length bs ≡ 0) × (length text ≤ 38912) × (length (lines text) ≤ 512)
+pub cut_allows : (bs : List Bytes) (text : Bytes) → is_ok (cut_answer bs text) ≡ true → (length bs ≡ 0) × (length text ≤ 38912) × (length (text_lines text) ≤ 512)
 cut_allows bs text h = grind (arith, nat_tests)
 
 pub add_allows : (bs : List Bytes) (b : Bytes) → is_ok (add_answer bs b) ≡ true → (length bs < 512) × (total_bytes bs + length b ≤ 38912)

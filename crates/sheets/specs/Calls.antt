@@ -30,9 +30,9 @@ in_front x [] = (x ∷ []) ∷ []
 in_front x (l ∷ ls) = (x ∷ l) ∷ ls
 
 -- each line with its byte 0A, and the last piece without one
-abbrev pub lines : Bytes → List Bytes
-lines [] = []
-lines (x ∷ xs) = cond (x == 10) ((x ∷ []) ∷ lines xs) (in_front x (lines xs))
+abbrev pub text_lines : Bytes → List Bytes
+text_lines [] = []
+text_lines (x ∷ xs) = cond (x == 10) ((x ∷ []) ∷ text_lines xs) (in_front x (text_lines xs))
 
 abbrev pub cut_answer : List Bytes → Bytes → Result ℕ Refusal
 cut_answer bs text =
@@ -40,8 +40,8 @@ cut_answer bs text =
     ((not (length bs == 0), SheetNotEmpty)
     ∷ (((length text == 0), EmptyText)
     ∷ ((nat_lt max_bytes (length text), TooLong)
-    ∷ ((nat_lt max_blocks (length (lines text)), TooManyLines) ∷ []))))
-    (length (lines text))
+    ∷ ((nat_lt max_blocks (length (text_lines text)), TooManyLines) ∷ []))))
+    (length (text_lines text))
 
 abbrev pub add_answer : List Bytes → Bytes → Result BlockNumber Refusal
 add_answer bs b =

@@ -1,7 +1,7 @@
 // A brake test sheet: numbered blocks of bytes, cut from a text or added one by one, and rewritten in place.
 #![tactic(auto)]
 
-ghost use Rattle.sheets.specs.Calls.{lines, LinesOf};
+ghost use Rattle.sheets.specs.Calls.{text_lines, LinesOf};
 ghost use Rattle.sheets.specs.Table.{Bytes};
 
 pub mod sheet;
@@ -16,5 +16,5 @@ pub const MAX_BYTES: usize = 38_912;
 
 // What cut makes of a text is its lines: joined they are the text, and each but the last ends with its only 0A.
 pub fn lines_stand()
-    ensures { (text : Bytes) → LinesOf text (lines text) }
+    ensures { (text : Bytes) → LinesOf text (text_lines text) }
 {}

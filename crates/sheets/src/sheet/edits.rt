@@ -1,7 +1,7 @@
 // The calls that change a sheet. Each first decides its answer, cause by cause, and changes the sheet only where that is good.
 ghost use Rattle.std.specs.Prelude.{◌≡◌, ◌+◌, ◌-◌, ◌≤◌, true, [], ◌∷◌, ◌++◌, map, length, take, drop, is_ok, vec_len, vec_capacity, OnErr, slice_index, slice_set, EachIndex};
 ghost use Rattle.sheets.specs.Blocks.{blocks_of, Stands};
-ghost use Rattle.sheets.specs.Calls.{lines, with_block, cut_answer, add_answer, rewrite_answer, after};
+ghost use Rattle.sheets.specs.Calls.{text_lines, with_block, cut_answer, add_answer, rewrite_answer, after};
 ghost use Rattle.sheets.specs.Table.{max_bytes, line_ends};
 
 use super::{Place, Sheet};
@@ -13,7 +13,7 @@ impl Sheet {
     // Fills an empty sheet from a text: each line with its byte 0A is a block, and so is a last piece without one. Answers the block count.
     pub fn cut(&mut self, text: &[u8]) -> Result<u16, Refusal>
         ensures answer { result ≡ cut_answer (blocks_of self.old) text.now }
-        ensures blocks { blocks_of self.new ≡ after result (lines text.now) (blocks_of self.old) }
+        ensures blocks { blocks_of self.new ≡ after result (text_lines text.now) (blocks_of self.old) }
         ensures kept { OnErr result (self.new ≡ self.old) }
     {
         let count = self.cut_count(text)?;
@@ -97,7 +97,7 @@ impl Sheet {
     #[tactic(auto, using(crate::proofs::Tells::cut_allows, crate::proofs::Known::none_held, crate::proofs::Known::count_is, crate::proofs::Lines::length_lines))]
     fn fill(&mut self, text: &[u8])
         requires { is_ok (cut_answer (blocks_of self.old) text.now) ≡ true }
-        ensures { blocks_of self.new ≡ lines text.now }
+        ensures { blocks_of self.new ≡ text_lines text.now }
     {
         self.bytes.extend_from_slice(text).unwrap();
         push_line_ends(&mut self.ends, text);
@@ -124,7 +124,7 @@ impl Sheet {
 }
 
 fn count_lines(text: &[u8]) -> usize
-    ensures { result ≡ length (lines text.now) }
+    ensures { result ≡ length (text_lines text.now) }
 {
     text.split_inclusive(|byte| *byte == b'\n').count()
 }
