@@ -1,6 +1,6 @@
 #!/usr/bin/env python3
 """plant.py [--jobs N] [--keep FILE] [--minutes N] [CRATE ..]: plants the bugs of planted.txt one at a time in copies of this repository, and tells
-whether `rt check` refuses each. With no CRATE it writes docs/PLANTED.md. What FILE keeps of an earlier run over the same crates is
+whether `rt check` refuses each. With no CRATE it writes docs/PLANTED.md. What FILE keeps of an earlier run over the same crate and those below is
 not tried again, and after so many minutes no further edit is begun. Status 1 if an edit is bad or not tried, or is not refused and
 planted.txt gives no reason why it changes nothing."""
 import argparse, hashlib, json, os, pathlib, queue, re, shutil, subprocess, sys, tempfile, threading, time
@@ -111,23 +111,29 @@ def fact_of(said, goal):
 
 
 class Kept:
-    """How edits ended in earlier runs, by a sum of every file that a check reads and of the edit."""
+    """How edits ended in earlier runs, by the edit and a sum of every file that a check of its crate reads."""
 
     def __init__(self, path):
-        self.path, self.known = path, {}
-        sum_of = hashlib.sha256()
-        for it in sorted([ROOT / 'crates.txt', *ROOT.glob('crates/*/*/**/*.rt'), *ROOT.glob('crates/*/*/**/*.antt')]):
-            if 'out' not in it.relative_to(ROOT).parts:
-                sum_of.update(f'{it.relative_to(ROOT)}\n'.encode() + it.read_bytes())
-        self.crates = sum_of.hexdigest()
+        self.path, self.known, self.sums = path, {}, {}
+        uses = dict(it.split(':') for it in (ROOT / 'crates.txt').read_text().split('\n') if ':' in it.split('#')[0])
+        self.uses = {it.split()[0]: uses[it].split() for it in uses}
         if path and os.path.isfile(path):
             with open(path, encoding='utf-8') as file:
                 for line in file:
                     said = json.loads(line)
                     self.known[said['key']] = said
 
+    def sum_of(self, crate):
+        if crate not in self.sums:
+            found = hashlib.sha256(''.join(self.sum_of(it) for it in self.uses.get(crate, [])).encode())
+            folder = ROOT / 'crates' / crate
+            for it in sorted([*folder.glob('src/**/*.rt'), *folder.glob('specs/**/*.antt'), *folder.glob('proofs/**/*.antt')]):
+                found.update(f'{it.relative_to(ROOT)}\n'.encode() + it.read_bytes())
+            self.sums[crate] = found.hexdigest()
+        return self.sums[crate]
+
     def key(self, planted):
-        return '\n'.join((self.crates, planted.file, planted.old, planted.new))
+        return '\n'.join((self.sum_of(planted.crate), planted.file, planted.old, planted.new))
 
     def take(self, planted):
         said = self.known.get(self.key(planted))
