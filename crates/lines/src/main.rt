@@ -23,9 +23,7 @@ fn report<R: Read + Drop, W: Write>(alloc: Global, input: R, output: &mut W) -> 
     let mut text = Vec::new(alloc);
     // One byte above the limit shows that a text is too long: what stands behind it is never read.
     // The cast stays: no `From` leads from `usize` to `u64`.
-    let _ = input
-        .take(MAX_BYTES as u64 + 1)
-        .read_to_end(&mut text)?;
+    let _ = input.take(MAX_BYTES as u64 + 1).read_to_end(&mut text)?;
     let report = text_report(alloc, &text)?;
     output.write_all(report.as_bytes())
 }

@@ -166,7 +166,7 @@ impl Verb {
 
 // A call that stands alone on its line.
 fn alone(words: Words, call: Call) -> Result<Call, ParseError>
-    ensures { Reads told (alone (told call) words.entry) result }
+    ensures { result_map_both told (λ e. e) result ≡ ok_or (alone (told call) words.entry) NotUnderstood }
 {
     words.end()?;
     Ok(call)
@@ -180,7 +180,7 @@ fn parse_rewrite(alloc: Global, mut words: Words) -> Result<Call, ParseError>
 }
 
 fn parse_choose(mut words: Words) -> Result<Call, ParseError>
-    ensures { Reads told (told_by verbs.Choose words.entry) result }
+    ensures { result_map_both told (λ e. e) result ≡ ok_or (told_by verbs.Choose words.entry) NotUnderstood }
 {
     let n = parse_count(words.next_word()?)?;
     Ok(Call::Choose(n, parse_count(words.last_word()?)?))
@@ -203,7 +203,7 @@ fn parse_vouch(alloc: Global, mut words: Words) -> Result<Call, ParseError>
 }
 
 fn parse_excerpt(mut words: Words) -> Result<Call, ParseError>
-    ensures { Reads told (told_by verbs.Excerpt words.entry) result }
+    ensures { result_map_both told (λ e. e) result ≡ ok_or (told_by verbs.Excerpt words.entry) NotUnderstood }
 {
     let block = block_number(words.next_word()?)?;
     let row = row_number(words.next_word()?)?;
