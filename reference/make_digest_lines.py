@@ -12,6 +12,8 @@ import hashlib
 import hmac
 import sys
 
+import line_tools
+
 MAX_COUNT = 1_000_000
 
 # Named digests, each as a function that makes a fresh hashlib object.
@@ -275,20 +277,12 @@ def lines():
         yield from not_understood(name)
     yield from edges()
     yield "# the last line has no end"
+    yield "sha256 " + b"end".hex()
 
 
 def main():
     check_published()
-    if sys.argv[1:] == []:
-        text = "\n".join(lines()) + "\nsha256 " + b"end".hex()
-        sys.stdout.write(text)
-    elif sys.argv[1:] == ["answers"]:
-        for line in sys.stdin.buffer.read().split(b"\n"):
-            printed = answer(line)
-            if printed is not None:
-                print(printed)
-    else:
-        sys.exit(__doc__)
+    line_tools.run(__doc__, lines, answer)
 
 
 if __name__ == "__main__":

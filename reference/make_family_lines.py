@@ -11,6 +11,7 @@ or if a small family is not as strong as it says.
 import sys
 from itertools import combinations
 
+import line_tools
 from families import (COEFFICIENT_COUNTS, FIELD_SIZES, Halves, Plane, Polynomial, Single,
                       choose, half_full, make_field)
 from sheet import MAX_BLOCKS, Refused
@@ -35,17 +36,7 @@ def call(words):
 
 
 def answer(line):
-    """What a line prints, without its end, or None if it prints nothing."""
-    if line == b"" or line.startswith(b"#"):
-        return None
-    try:
-        # Double, leading and trailing spaces give empty words here, which
-        # are no number and no word of the lines.
-        return call(line.split(b" "))
-    except Refused as refusal:
-        return f"refused {refusal.number}"
-    except NotUnderstood:
-        return "not understood"
+    return line_tools.answer(line, call)
 
 
 # What must hold before anything is written.
@@ -437,21 +428,12 @@ def lines():
     yield "choose 512 3"
 
 
-def main(arguments):
+def main():
     check_by_hand()
     check_fields()
     check_strengths()
-    if arguments == []:
-        # Latin-1 gives each character its one byte.
-        sys.stdout.buffer.write("\n".join(lines()).encode("latin-1"))
-    elif arguments == ["answers"]:
-        for line in sys.stdin.buffer.read().split(b"\n"):
-            printed = answer(line)
-            if printed is not None:
-                print(printed)
-    else:
-        sys.exit(__doc__)
+    line_tools.run(__doc__, lines, answer)
 
 
 if __name__ == "__main__":
-    main(sys.argv[1:])
+    main()

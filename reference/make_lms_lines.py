@@ -14,10 +14,10 @@ published stands here, and both uses stop if lms.py answers otherwise.
 
 import sys
 
+import line_tools
 import lms
-from sheet import Refused
-from words import (NotUnderstood, read_drawn, read_each, read_exactly, read_hex, read_I,
-                   read_number, read_seed, write_hex)
+from words import (read_drawn, read_exactly, read_hex, read_I, read_number, read_seed,
+                   write_hex)
 
 PUBLIC_BYTES = lms.I_BYTES + lms.N
 
@@ -56,24 +56,11 @@ WORDS = {
 
 
 def call(words):
-    if words[0] not in WORDS:
-        raise NotUnderstood
-    function, readers = WORDS[words[0]]
-    return function(*read_each(readers, words[1:]))
+    return line_tools.call_by(WORDS, words)
 
 
 def answer(line):
-    """What a line prints, without its end, or None if it prints nothing."""
-    if line == b"" or line.startswith(b"#"):
-        return None
-    try:
-        # Double, leading and trailing spaces give empty words here, which
-        # are no number and no hex.
-        return call(line.split(b" "))
-    except Refused as refusal:
-        return str(refusal)
-    except NotUnderstood:
-        return "not understood"
+    return line_tools.answer(line, call)
 
 
 # What RFC 8554 has published for these parameters, in its Appendix F.
@@ -410,18 +397,10 @@ def lines():
     yield sign_line(31, b"end")
 
 
-def main(arguments):
+def main():
     check_published()
-    if arguments == []:
-        sys.stdout.buffer.write("\n".join(lines()).encode("ascii"))
-    elif arguments == ["answers"]:
-        for line in sys.stdin.buffer.read().split(b"\n"):
-            printed = answer(line)
-            if printed is not None:
-                print(printed)
-    else:
-        sys.exit(__doc__)
+    line_tools.run(__doc__, lines, answer)
 
 
 if __name__ == "__main__":
-    main(sys.argv[1:])
+    main()

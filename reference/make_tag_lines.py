@@ -10,10 +10,10 @@ published ones stand here, and both uses stop if tags.py answers otherwise.
 import hashlib
 import sys
 
-from sheet import Refused
+import line_tools
 from tags import DIGESTS, KEY_BYTES, LIMIT, TagKey, inspect, make_tag
-from words import (MAX_DRAWN, NotUnderstood, read_digest, read_drawn, read_each, read_hex,
-                   read_key, read_name, write_hex)
+from words import (MAX_DRAWN, read_digest, read_drawn, read_hex, read_key, read_name,
+                   write_hex)
 
 
 # What the lines call.
@@ -36,26 +36,11 @@ WORDS = {
 
 
 def call(words):
-    if words[0] not in WORDS:
-        raise NotUnderstood
-    function, readers = WORDS[words[0]]
-    # All words are read before the call, so that a bad word shows even where
-    # the call would be refused.
-    return function(*read_each(readers, words[1:]))
+    return line_tools.call_by(WORDS, words)
 
 
 def answer(line):
-    """What a line prints, without its end, or None if it prints nothing."""
-    if line == b"" or line.startswith(b"#"):
-        return None
-    try:
-        # Double, leading and trailing spaces give empty words here, which
-        # are no digest, no number and no hex.
-        return call(line.split(b" "))
-    except Refused as refusal:
-        return f"refused {refusal.number}"
-    except NotUnderstood:
-        return "not understood"
+    return line_tools.answer(line, call)
 
 
 # What must hold before anything is written.
@@ -296,19 +281,10 @@ def lines():
     yield tag_line("blake2s", b"end")
 
 
-def main(arguments):
+def main():
     check_tags()
-    if arguments == []:
-        # Latin-1 gives each character its one byte.
-        sys.stdout.buffer.write("\n".join(lines()).encode("latin-1"))
-    elif arguments == ["answers"]:
-        for line in sys.stdin.buffer.read().split(b"\n"):
-            printed = answer(line)
-            if printed is not None:
-                print(printed)
-    else:
-        sys.exit(__doc__)
+    line_tools.run(__doc__, lines, answer)
 
 
 if __name__ == "__main__":
-    main(sys.argv[1:])
+    main()
