@@ -14,7 +14,7 @@ from itertools import combinations
 import line_tools
 from families import (COEFFICIENT_COUNTS, FIELD_SIZES, Halves, Plane, Polynomial, Single,
                       choose, half_full, make_field)
-from sheet import MAX_BLOCKS, Refused
+from sheet import MAX_BLOCKS
 from words import NotUnderstood, read_kind, read_number, write_family
 
 

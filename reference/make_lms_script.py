@@ -11,7 +11,7 @@ import sys
 
 import lms
 from make_lms_lines import I, OTHER_I, OTHER_SEED, SEED
-from make_seal_script import (HASHES, KEY, PLANE_ROWS, Part, SealScript, framed, lines_of,
+from make_seal_script import (HASHES, PLANE_ROWS, Part, SealScript, framed, lines_of,
                               plane, row_images, single, whole_image)
 from make_sheet_script import filler
 
