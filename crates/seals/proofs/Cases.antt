@@ -1,5 +1,5 @@
 -- The worked cases, by computing.
-use Rattle.std.proofs.Common.{◌≡◌, ℕ, zero, suc, ◌<◌, ◌/◌, [], ◌∷◌, Ok, Err, sym, refl, ap, ◌∙◌, mod-lt, arith}
+use Rattle.std.proofs.Common.{◌≡◌, ℕ, zero, suc, ◌<◌, ◌/◌, List, [], ◌∷◌, Ok, Err, sym, refl, ap, ◌∙◌, mod-lt, arith}
 use Rattle.std.specs.List.{AllByRecursion}
 use Rattle.answers.specs.declared.Refusal.{Refusal}
 use Rattle.answers.specs.declared.Refusal.TheVariants.{NoSuchBlock}
@@ -10,7 +10,7 @@ use Rattle.families.specs.Lawful.{plane_lawful}
 use Rattle.seals.specs.Images.{framed_blocks, row_image, whole_image, row_rest}
 use Rattle.seals.specs.Part.{word, row_digest, whole_digest, digests_of_rows, seal_head, text_to_sign, seal_part}
 use Rattle.seals.specs.Calls.{same_family, same_scheme, same_count, passes, agrees, suspect, suspects, check_before, check_answer, vouching, vouch_before, vouch_answer, excerpt_answer, unframed, all_short, rest_blocks, is_excerpt, confirm_before, confirm_answer}
-use Rattle.seals.specs.Law.{Call, Answer, Event, up_to_first, rows_of, answer, after, after_all, events, rewritten_to, standing, is_changed, changed, compares, image_of}
+use Rattle.seals.specs.Law.{Call, Answer, Event, up_to_first, rows_of, answer, after, after_all, events, rewritten_to, standing, is_changed, changed, changed_beside, is_unclear, unclear, compares, image_of}
 use Rattle.seals.specs.Law.Call.{rewrite, check}
 use Rattle.seals.specs.Law.Done.{rewritten, named}
 use Rattle.seals.specs.Cases.{as_number, lowest_digits, small_digest, plane, yes, one_byte_blocks, plane_sheet, plane_part, spoil, asked, failing, images_compared, bytes_compared, cases, beside_eight, WorkedCases, NotEmpty}
@@ -19,9 +19,9 @@ use Rattle.seals.proofs.Answers.{same_true, same_refl}
 use Rattle.seals.proofs.Promises.{sealed_promises}
 
 pub worked_cases : WorkedCases
-unfolding framed_blocks row_image whole_image numbers keep_where any_of row_digest whole_digest word same_family same_scheme same_count check_before passes agrees suspect suspects check_answer answer after after_all digests_of_rows seal_head text_to_sign seal_part first_fit rows_of as_number lowest_digits small_digest plane yes one_byte_blocks plane_sheet plane_part spoil asked failing images_compared bytes_compared compares image_of vouch_before up_to_first row_rest unframed all_short rest_blocks is_excerpt confirm_before beside_eight cases
+unfolding framed_blocks row_image whole_image numbers keep_where any_of row_digest whole_digest word same_family same_scheme same_count check_before passes agrees suspect suspects check_answer answer after after_all digests_of_rows seal_head text_to_sign seal_part first_fit rows_of as_number lowest_digits small_digest plane yes one_byte_blocks plane_sheet plane_part spoil asked failing events rewritten_to standing is_changed changed changed_beside is_unclear unclear images_compared bytes_compared compares image_of vouch_before up_to_first row_rest unframed all_short rest_blocks is_excerpt confirm_before beside_eight cases
 worked_cases =
-    (refl, (refl, (refl, (refl, (refl, (refl, (refl, (refl, (refl, (refl, (refl, (refl, (refl, (refl, (refl, (refl, (refl, (refl, (refl, (refl, (refl, (refl, (refl, (refl, (refl, (refl, (refl, (refl, (refl, (refl, (refl, (refl, (refl, tt)))))))))))))))))))))))))))))))))
+    (refl, (refl, (refl, (refl, (refl, (refl, (refl, (refl, (refl, (refl, (refl, (refl, (refl, (refl, (refl, (refl, (refl, (refl, (refl, (refl, (refl, (refl, (refl, (refl, (refl, (refl, (refl, (refl, (refl, (refl, (refl, (refl, (refl, (refl, (refl, tt)))))))))))))))))))))))))))))))))))
 
 digits_are_bytes : (x count : ℕ) → AllByRecursion (λ d. d < 256) (lowest_digits x count)
 unfolding lowest_digits
@@ -47,6 +47,9 @@ plane_written =
       genuine = refl;
     }
 
+not_five : ◌≡◌ {A = ℕ} 28 28 × ◌≡◌ {A = List ℕ} (5 ∷ []) (4 ∷ []) → ⊥
+not_five h = absurd (let z : ◌≡◌ {A = List ℕ} (5 ∷ []) (4 ∷ []) = h.1 in cc)
+
 -- a call that is refused, and a check, are no rewrite that succeeds
 refused_quiet : (c : Call) (e : Refusal) (j n : ℕ) (v : Bytes) → ◌≡◌ {A = Event} (c, Err e) (rewrite j v, Ok (rewritten n)) → ⊥
 refused_quiet c e j n v h = absurd (let z : ◌≡◌ {A = Answer} (Err e) (Ok (rewritten n)) = ap (λ (x : Event). x.1) h in cc)
@@ -59,6 +62,7 @@ unfolding framed_blocks row_image whole_image numbers keep_where any_of row_dige
 not_empty =
     record {
       promised = sealed_promises plane yes 70000 plane_sheet [] plane_written;
+      has_room = omega arith;
       clear = (no_clash_by _ _ refl, (no_clash_by _ _ refl, (no_clash_by _ _ refl, (no_clash_by _ _ refl, (no_clash_by _ _ refl, (no_clash_by _ _ refl, (no_clash_by _ _ refl, (no_clash_by _ _ refl, (no_clash_by _ _ refl, (no_clash_by _ _ refl, tt))))))))));
       one_changed = refl;
       one_named = refl;
@@ -69,6 +73,7 @@ not_empty =
       one_confirmed = refl;
       three_clear = (no_clash_by _ _ refl, (no_clash_by _ _ refl, (no_clash_by _ _ refl, (no_clash_by _ _ refl, (no_clash_by _ _ refl, (no_clash_by _ _ refl, (no_clash_by _ _ refl, (no_clash_by _ _ refl, (no_clash_by _ _ refl, (no_clash_by _ _ refl, tt))))))))));
       three_refused = (refl, refl);
+      not_with_four = not_five;
       around_clear = (no_clash_by _ _ refl, (no_clash_by _ _ refl, tt));
       around_vouched = refl;
       refused_changed = refl;

@@ -15,7 +15,7 @@ use Rattle.seals.specs.Images.{framed, row_image, whole_image}
 use Rattle.seals.specs.Scheme.{Scheme, Inspection, scheme, inspection}
 use Rattle.seals.specs.Part.{seal_part}
 use Rattle.seals.specs.Calls.{passes, suspects}
-use Rattle.seals.specs.Law.{Call, Answer, after_all, events, NoRewrite, RefusesAs, rows_of, Image, image_of, compares, changed, reply, Clear, Promised}
+use Rattle.seals.specs.Law.{Call, Answer, after_all, events, NoRewrite, RefusesAs, rows_of, Image, image_of, compares, changed, changed_beside, unclear, reply, Clear, Room, Promised}
 use Rattle.seals.specs.Law.Call.{rewrite, check, vouch, excerpt, confirm}
 use Rattle.seals.specs.Law.Image.{whole, row}
 use Rattle.seals.specs.Law.Done.{named, rewritten, accepted, vouched, excerpted, confirmed}
@@ -118,6 +118,9 @@ cases =
     -- plane, blocks 1, 4 and 7 changed: the suspects, and the refusal with their count
     ∷ (suspects plane plane_part (after_all plane_sheet (spoil (1 ∷ 4 ∷ 7 ∷ []))), 1 ∷ 4 ∷ 7 ∷ 11 ∷ 12 ∷ [])
     ∷ (said (checked (1 ∷ 4 ∷ 7 ∷ [])), 28 ∷ 5 ∷ [])
+    -- then the unclear blocks, and the changed ones beside block 4
+    ∷ (unclear plane yes plane_part plane_sheet (spoil (1 ∷ 4 ∷ 7 ∷ [])), 1 ∷ 4 ∷ 7 ∷ 11 ∷ 12 ∷ [])
+    ∷ (changed_beside plane yes plane_part plane_sheet 4 (spoil (1 ∷ 4 ∷ 7 ∷ [])), 1 ∷ 7 ∷ [])
     -- plane, unchanged
     ∷ (said (checked []), [])
     -- plane, what a check compares: the whole alone where nothing is changed, every row as well where block 4 is, and nothing without room
@@ -188,6 +191,7 @@ there_and_back = rewrite 4 (99 ∷ []) ∷ (rewrite 4 (4 ∷ []) ∷ [])
 -- What the law assumes can be met: a seal part keeps the promises, a check that meets no clash names a changed block, and vouch, excerpt, confirm and a refused check go the same way.
 pub record NotEmpty : Type 0 where
   pub promised : Promised plane yes plane_part plane_sheet
+  pub has_room : Room plane yes plane_part plane_sheet 2
   pub clear : Clear plane yes plane_part plane_sheet (spoil (4 ∷ [])) (check 2)
   pub one_changed : changed plane yes plane_part plane_sheet (spoil (4 ∷ [])) ≡ 4 ∷ []
   pub one_named : checked (4 ∷ []) ≡ Ok (named (4 ∷ []))
@@ -197,9 +201,10 @@ pub record NotEmpty : Type 0 where
   pub one_excerpted : asked (4 ∷ []) (excerpt 8 2 15) ≡ Ok (excerpted beside_eight)
   pub confirm_clear : Clear plane yes plane_part plane_sheet (spoil (4 ∷ [])) (confirm 8 2 (8 ∷ []) beside_eight)
   pub one_confirmed : asked (4 ∷ []) (confirm 8 2 (8 ∷ []) beside_eight) ≡ Ok confirmed
-  -- with three blocks changed, a check that meets no clash is refused, with the count of suspects
+  -- with three blocks changed, a check that meets no clash is refused, with the count of suspects and no other
   pub three_clear : Clear plane yes plane_part plane_sheet (spoil (1 ∷ 4 ∷ 7 ∷ [])) (check 2)
   pub three_refused : RefusesAs 28 (5 ∷ []) (checked (1 ∷ 4 ∷ 7 ∷ []))
+  pub not_with_four : RefusesAs 28 (4 ∷ []) (checked (1 ∷ 4 ∷ 7 ∷ [])) → ⊥
   -- and block 4 is vouched for with its sealed byte: row 1 holds block 7 too, row 4 no other changed block
   pub around_clear : Clear plane yes plane_part plane_sheet (spoil (1 ∷ 4 ∷ 7 ∷ [])) (vouch 4 (4 ∷ []))
   pub around_vouched : asked (1 ∷ 4 ∷ 7 ∷ []) (vouch 4 (4 ∷ [])) ≡ Ok (vouched 4 15)
