@@ -21,7 +21,7 @@ use Rattle.seals.proofs.Promises.{sealed_promises}
 pub worked_cases : WorkedCases
 unfolding framed_blocks row_image whole_image numbers keep_where any_of row_digest whole_digest word same_family same_scheme same_count check_before passes agrees suspect suspects check_answer answer after after_all digests_of_rows seal_head text_to_sign seal_part first_fit rows_of as_number lowest_digits small_digest plane yes one_byte_blocks plane_sheet plane_part spoil asked failing events rewritten_to standing is_changed changed changed_beside is_unclear unclear images_compared bytes_compared compares image_of vouch_before up_to_first row_rest unframed all_short rest_blocks is_excerpt confirm_before beside_eight cases
 worked_cases =
-    (refl, (refl, (refl, (refl, (refl, (refl, (refl, (refl, (refl, (refl, (refl, (refl, (refl, (refl, (refl, (refl, (refl, (refl, (refl, (refl, (refl, (refl, (refl, (refl, (refl, (refl, (refl, (refl, (refl, (refl, (refl, (refl, (refl, (refl, (refl, tt)))))))))))))))))))))))))))))))))))
+    (refl, (refl, (refl, (refl, (refl, (refl, (refl, (refl, (refl, (refl, (refl, (refl, (refl, (refl, (refl, (refl, (refl, (refl, (refl, (refl, (refl, (refl, (refl, (refl, (refl, (refl, (refl, (refl, (refl, (refl, (refl, (refl, (refl, (refl, (refl, (refl, tt))))))))))))))))))))))))))))))))))))
 
 digits_are_bytes : (x count : ℕ) → AllByRecursion (λ d. d < 256) (lowest_digits x count)
 unfolding lowest_digits

@@ -16,7 +16,7 @@ use Rattle.seals.specs.Scheme.{Scheme, Inspection, scheme, inspection}
 use Rattle.seals.specs.Part.{seal_part}
 use Rattle.seals.specs.Calls.{passes, suspects}
 use Rattle.seals.specs.Law.{Call, Answer, after_all, events, NoRewrite, RefusesAs, rows_of, Image, image_of, compares, changed, changed_beside, unclear, reply, Clear, Room, Promised}
-use Rattle.seals.specs.Law.Call.{rewrite, check, vouch, excerpt, confirm}
+use Rattle.seals.specs.Law.Call.{rewrite, accept, check, vouch, excerpt, confirm}
 use Rattle.seals.specs.Law.Image.{whole, row}
 use Rattle.seals.specs.Law.Done.{named, rewritten, accepted, vouched, excerpted, confirmed}
 
@@ -135,6 +135,8 @@ cases =
     -- and a confirm: the one row, and nothing with an empty excerpt
     ∷ (images_compared (4 ∷ []) (confirm 8 2 (8 ∷ []) beside_eight), 2 ∷ [])
     ∷ (images_compared (4 ∷ []) (confirm 8 2 (8 ∷ []) []), [])
+    -- and the calls of the other kinds: nothing
+    ∷ (flat_map (images_compared (4 ∷ [])) (rewrite 4 (98 ∷ []) ∷ (accept ∷ (excerpt 8 2 15 ∷ []))), [])
     -- the images that they take: of the sheet as it is, of row 1 with block 4 as offered, and of row 2 put together from the offered byte 98 and the excerpt
     ∷ (bytes_compared (4 ∷ []) (check 2), whole_image four_spoiled ++ flat_map (λ i. row_image (plane_shape 12).holds i four_spoiled) (numbers 1 9))
     ∷ (

@@ -249,9 +249,10 @@ module _ (s : Scheme) (own : Inspection) (part : Bytes) (sealed : List Bytes) wh
     pub differ : (cs : List Call) → changed cs ≡ keep_where (λ j. not (same (block_at (after_all sealed cs) j) (block_at sealed j))) (numbers 1 s.family.blocks)
     -- they are a set
     pub rising : (cs : List Call) → Rising s.family.blocks 0 (changed cs)
-    -- where none is changed the sheet is the sealed one, and a check meets no clash
+    -- where none is changed the sheet is the sealed one, and neither a check nor a vouch of sealed bytes meets a clash
     pub sealed_again : (cs : List Call) → length sealed ≤ s.family.blocks → changed cs ≡ [] → after_all sealed cs ≡ sealed
-    pub no_clash : (cs : List Call) (room : ℕ) → length sealed ≤ s.family.blocks → changed cs ≡ [] → Clear cs (check room)
+    pub check_of_sealed : (cs : List Call) (room : ℕ) → length sealed ≤ s.family.blocks → changed cs ≡ [] → Clear cs (check room)
+    pub vouch_of_sealed : (cs : List Call) (j : ℕ) → length sealed ≤ s.family.blocks → changed cs ≡ [] → Clear cs (vouch j (block_at sealed j))
 
 -- a string is an excerpt exactly if some blocks, each at most 38,912 bytes, have it as the frames of the row's others
 abbrev pub ExcerptForm : Type 0
