@@ -3,6 +3,7 @@ pub mod Framing
 pub mod Answers
 pub mod Numbers
 pub mod History
+pub mod Unchanged
 pub mod Rows
 pub mod CheckLaw
 pub mod Apart

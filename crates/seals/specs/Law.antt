@@ -203,11 +203,11 @@ module _ (s : Scheme) (own : Inspection) (part : Bytes) (sealed : List Bytes) wh
     -- a check with room names exactly the changed blocks, if they are at most d
     pub names : (cs : List Call) (room : ℕ) → Room room → Clear cs (check room)
         → length (changed cs) ≤ s.family.strength → reply cs (check room) ≡ Ok (named (changed cs))
-    -- and if they are more, it refuses with the count of suspects
+    -- and if they are more, it refuses with the count of unclear blocks
     pub refuses : (cs : List Call) (room : ℕ) → Room room → Clear cs (check room)
         → s.family.strength < length (changed cs)
         → RefusesAs 28 (length (unclear cs) ∷ []) (reply cs (check room))
-    -- a row fails in a check exactly if it holds a changed block
+    -- a row whose present image is no clash fails exactly if it holds a changed block
     pub fails : (cs : List Call) (i : ℕ) → 1 ≤ i → i ≤ s.family.rows → NotAClash s sealed (row i) (after_all sealed cs)
         → not (passes s part (after_all sealed cs) i) ≡ touches s.family.holds (changed cs) i
     -- the failing rows fix the changed blocks: a set of at most d blocks that touches exactly them is the changed set
@@ -240,6 +240,19 @@ module _ (s : Scheme) (own : Inspection) (part : Bytes) (sealed : List Bytes) wh
         → (mid : List Call) → NoRewrite (events s own part (after_all sealed cs) mid) → (room : ℕ) → n ≤ room
         → (e : Bytes) × ((length e ≡ n) × (reply (cs ++ (vouch j v ∷ mid)) (excerpt j i room) ≡ Ok (excerpted e))
         × ((later : List Call) → reply (cs ++ (vouch j v ∷ (mid ++ (excerpt j i room ∷ later)))) (confirm j i v e) ≡ Ok confirmed))
+
+  -- The history and the sheet agree after every list of calls, whatever the seal part.
+  pub record HistoryIsTheSheet : Type 0 where
+    -- the bytes of a block's last successful rewrite, or its sealed ones, are those that it has
+    pub stands : (cs : List Call) (j : ℕ) → 1 ≤ j → block_at (after_all sealed cs) j ≡ standing (events s own part sealed cs) j (block_at sealed j)
+    -- the changed blocks are those that do not have their sealed bytes
+    pub differ : (cs : List Call) → changed cs ≡ keep_where (λ j. not (same (block_at (after_all sealed cs) j) (block_at sealed j))) (numbers 1 s.family.blocks)
+    -- they are a set
+    pub rising : (cs : List Call) → Rising s.family.blocks 0 (changed cs)
+    -- where none is changed the sheet is the sealed one, and neither a check nor a vouch of sealed bytes meets a clash
+    pub sealed_again : (cs : List Call) → length sealed ≤ s.family.blocks → changed cs ≡ [] → after_all sealed cs ≡ sealed
+    pub check_of_sealed : (cs : List Call) (room : ℕ) → length sealed ≤ s.family.blocks → changed cs ≡ [] → Clear cs (check room)
+    pub vouch_of_sealed : (cs : List Call) (j : ℕ) → length sealed ≤ s.family.blocks → changed cs ≡ [] → Clear cs (vouch j (block_at sealed j))
 
 -- a string is an excerpt exactly if some blocks, each at most 38,912 bytes, have it as the frames of the row's others
 abbrev pub ExcerptForm : Type 0

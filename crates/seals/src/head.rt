@@ -1,4 +1,4 @@
-// What a seal part says of itself, for people to read. Nobody has accepted it yet.
+// What a seal part says of itself, whether accepted or not: for people to read, and for the choice of the digest and the family that it names.
 ghost use Rattle.std.specs.Prelude.{◌≡◌, ◌≤◌, length};
 ghost use Rattle.seals.specs.Head.{head_fields, head_answer};
 

@@ -1,7 +1,10 @@
 // Seals of sheets. Theorems first, each on the contract of a function.
 #![tactic(auto)]
 
-ghost use Rattle.seals.specs.Law.{ExcerptForm};
+ghost use Rattle.std.specs.Prelude.{List};
+ghost use Rattle.digests.specs.Strings.{Bytes};
+ghost use Rattle.seals.specs.Scheme.{Scheme, Inspection};
+ghost use Rattle.seals.specs.Law.{ExcerptForm, HistoryIsTheSheet};
 ghost use Rattle.seals.specs.Cases.{WorkedCases, NotEmpty};
 
 mod accepted;
@@ -22,6 +25,12 @@ pub use sealing::seal;
 #[tactic(auto, using(crate::proofs::ExcerptLaw::excerpt_form))]
 pub fn excerpts_are_frames()
     ensures { ExcerptForm }
+{}
+
+// What the law says by the history of calls, said by the sheet itself.
+#[tactic(auto, using(crate::proofs::Unchanged::history_is_the_sheet))]
+pub fn history_and_sheet_agree()
+    ensures { (s : Scheme) (own : Inspection) (part : Bytes) (sealed : List Bytes) → HistoryIsTheSheet s own part sealed }
 {}
 
 #[tactic(auto, using(crate::proofs::Cases::worked_cases))]
