@@ -11,7 +11,7 @@ use Rattle.sheets.specs.Table.{max_bytes}
 use Rattle.sheets.specs.Calls.{with_block, no_block}
 use Rattle.seals.specs.Images.{row_image, whole_image, row_rest}
 use Rattle.seals.specs.Scheme.{Scheme, Inspection}
-use Rattle.seals.specs.Part.{word, part_blocks, part_strength, part_rows, part_digest_kind, part_sealer_kind, is_seal_part, seal_number, signed_text, signature_of, row_digest, whole_digest}
+use Rattle.seals.specs.Part.{word, part_blocks, part_strength, part_rows, part_family_kind, part_q, part_k, part_digest_kind, part_sealer_kind, is_seal_part, seal_number, signed_text, signature_of, row_digest, whole_digest}
 
 -- some cause of a list holds
 abbrev pub held_back : List (Bool × Refusal) → Bool
@@ -37,7 +37,7 @@ seal_answer f key drawn_under number bs room =
 unfoldable pub same_family : Shape → Bytes → Bool
 same_family f b =
     part_blocks b == f.blocks
-    && (slice_index b 2 == f.kind && (slice_index b 3 == f.q && (slice_index b 4 == f.k
+    && (part_family_kind b == f.kind && (part_q b == f.q && (part_k b == f.k
     && (part_strength b == f.strength && part_rows b == f.rows))))
 
 -- so are family and digest

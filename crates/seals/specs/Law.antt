@@ -194,7 +194,7 @@ module _ (s : Scheme) (own : Inspection) (part : Bytes) (sealed : List Bytes) wh
   abbrev pub Room : ℕ → Type 0
   Room room = min s.family.strength s.family.blocks ≤ room
 
-  -- what a seal promises: each line holds after every list of calls
+  -- What a seal promises: each line holds after every list of calls. A line with Clear or NotAClash in it speaks of calls that meet no clash.
   pub record Promised : Type 0 where
     -- every accept succeeds
     pub accepts : (cs : List Call) → reply cs accept ≡ Ok (accepted part)

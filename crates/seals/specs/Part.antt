@@ -75,7 +75,7 @@ to_512 x = nat_le 1 x && nat_le x 512
 unfoldable pub is_seal_part : Bytes → Bool
 is_seal_part b =
     to_512 (part_blocks b) && (to_512 (part_rows b) && (to_512 (part_strength b)
-    && (nat_lt 0 (slice_index b 2) && (nat_lt 0 (part_digest_kind b) && (nat_lt 0 (part_sealer_kind b) && (slice_index b 7 == 0
+    && (nat_lt 0 (part_family_kind b) && (nat_lt 0 (part_digest_kind b) && (nat_lt 0 (part_sealer_kind b) && (slice_index b 7 == 0
     && length b == 50 + (32 * part_rows b + word b (text_length b))))))))
 
 -- the text that is signed
