@@ -81,7 +81,7 @@ fn seal_into<S: Sealer>(
     }
 }
 
-// Into a buffer of just the length.
+// Into a buffer that is as long as the seal part.
 fn seal_by<D: Digest, S: Sealer>(
     sheet: &Sheet,
     family: &AnyFamily,
@@ -115,7 +115,7 @@ pub fn pack_file(alloc: Global, sheet: &Sheet, part: &[u8]) -> Result<Vec<u8>, S
     Ok(file)
 }
 
-// Into a buffer of just the length.
+// Into a buffer that is as long as the file.
 #[tactic(auto, using(crate::proofs::Filled::unpacked))]
 fn pack_into(sheet: &Sheet, part: &[u8], out: &mut [u8]) -> Result<(), Refusal>
     requires { length out.old ≡ length (file_of (blocks_of sheet.now) part.now) }

@@ -1,4 +1,4 @@
-// What C calls. A slice is a pointer and a length there, and `alloc` is nothing. Each answers a status: 0, the number of a refusal, or 255 where memory did not suffice.
+// What C calls. A slice is a pointer and a length there, and `alloc` no parameter at all. Each answers a status: 0, the number of a refusal, or 255 where memory did not suffice.
 ghost use Rattle.std.specs.Prelude.{◌≡◌, [], length};
 ghost use Rattle.std.specs.Result.{result_map_both};
 ghost use Rattle.files.specs.File.{unpack_answer};

@@ -1,4 +1,4 @@
-// Sealed files: a sheet's blocks framed, their seal part, and a trailer. Theorems first, each on the contract of a function.
+// Sealed files: a sheet's blocks framed, their seal part, and a trailer. The function here does nothing: its contract is a theorem.
 #![tactic(auto)]
 
 ghost use Rattle.files.specs.RoundTrip.{RoundTrip};

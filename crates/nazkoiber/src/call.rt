@@ -47,7 +47,7 @@ pub enum Call {
     Key(KeyWords),
     Draw,
     Burn,
-    // Places in the buffer, here and in check and excerpt.
+    // Places in the buffer; of check, in the list.
     Seal(usize),
     Part,
     SetPart(Vec<u8>),
@@ -62,7 +62,7 @@ pub enum Call {
     Unpack(Vec<u8>),
 }
 
-// The first word of a line. Apart from the call, since the definition of what a line says goes by it.
+// The first word of a line, a type of its own: the definition of what a line says looks it up first.
 #[derive(Clone, Copy)]
 enum Verb {
     Clear,

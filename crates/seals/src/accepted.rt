@@ -109,7 +109,7 @@ impl Accepted<'_> {
         same_bytes(digest, row_digest_of(self.part, row))
     }
 
-    // Whether the whole has.
+    // Whether the digest of the whole is the sealed one.
     #[tactic(auto, using(crate::proofs::Parts::part_long), unfolding(crate::specs::Calls::agrees))]
     pub(crate) fn agrees<D: Digest, F: Family>(&self, family: &F, sheet: &Sheet) -> bool
         ensures { result ≡ agrees (scheme D.digest D.KIND (F.shape family.now)) self.now.part.now (blocks_of sheet.now) }

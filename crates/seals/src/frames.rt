@@ -78,7 +78,7 @@ pub(crate) fn put_frame(out: &mut [u8], place: usize, number: BlockNumber, bytes
     end
 }
 
-// The same of whatever is asked: nothing is written where the frame does not fit, or the block is too long for one.
+// As `put_frame`, but asks nothing: nothing is written where the frame does not fit, or the block is too long for one.
 #[tactic(auto, unfolding(crate::specs::Images::frame_fits))]
 pub fn write_frame(out: &mut [u8], place: usize, number: BlockNumber, bytes: &[u8]) -> Option<usize>
     ensures place { result ≡ cond (frame_fits place (length bytes.now) (length out.old)) (Some (place + 4 + length bytes.now)) None }

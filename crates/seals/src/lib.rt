@@ -1,4 +1,4 @@
-// Seals of sheets. Theorems first, each on the contract of a function.
+// Seals of sheets. The functions here do nothing: the contract of each is a theorem.
 #![tactic(auto)]
 
 ghost use Rattle.std.specs.Prelude.{List};

@@ -114,7 +114,7 @@ pub(crate) fn signature_of(part: &[u8]) -> &[u8]
     &part[text_end(part) + 2..]
 }
 
-// The reader of a part that is not yet known to be one.
+// Whether bytes have the form of a seal part. The functions above ask that of their caller, this one asks nothing.
 #[tactic(auto, unfolding(crate::specs::Part::is_seal_part))]
 pub(crate) fn is_seal_part(part: &[u8]) -> bool
     ensures { result ≡ is_seal_part part.now }

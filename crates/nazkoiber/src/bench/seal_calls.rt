@@ -144,7 +144,7 @@ impl Bench {
     }
 }
 
-// By the digest that the script has set. Apart from the call above, since what is known of a choice is lost behind it.
+// By the digest that the script has set. A function of its own: behind a choice between two calls the proof would not know which was made.
 fn seal_by(
     digest: Algorithm,
     sheet: &Sheet,
