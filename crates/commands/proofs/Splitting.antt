@@ -1,5 +1,5 @@
 -- One word more is read.
-use Rattle.std.proofs.Common.{◌≡◌, ◌++◌, [], ◌∷◌, true, false, cond, Some, None, Option, refl, sym, ap, ◌∙◌, append_assoc}
+use Rattle.std.proofs.Common.{◌≡◌, ◌++◌, [], ◌∷◌, true, false, Some, None, Option, refl, append_assoc}
 use Rattle.std.specs.Borrow.{Bor}
 use Rattle.scripts.specs.Words.{Bytes}
 use Rattle.commands.specs.Choices.{WordList}

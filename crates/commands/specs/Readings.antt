@@ -10,7 +10,6 @@ use Rattle.told.specs.declared.algorithm.Algorithm.{Algorithm}
 use Rattle.told.specs.declared.algorithm.Algorithm.TheVariants.{Sha256}
 use Rattle.commands.specs.Choices.{WordList}
 use Rattle.commands.specs.declared.command.Command.{Command}
-use Rattle.commands.specs.declared.misuse.Misuse.{Misuse}
 use Rattle.commands.specs.declared.misuse.Misuse.TheVariants.{LackingWord, NoSuchOption, WordCount, NotANumber, NoSuchDigest}
 use Rattle.commands.specs.declared.usage.Page.TheVariants.{Of}
 use Rattle.commands.specs.declared.problem.Problem.{Problem}

@@ -1,6 +1,7 @@
 // What the words of a command line ask for.
 ghost use Rattle.std.specs.Prelude.{◌≡◌};
 ghost use Rattle.std.specs.List.{list_any};
+ghost use Rattle.commands.specs.Names.{IsNamed};
 ghost use Rattle.commands.specs.Choices.{is_help, choice_told, chosen, key_chosen, command_chosen};
 
 use crate::command::Command;
@@ -54,8 +55,11 @@ fn choose_on_keys<'w, 'a>(words: &'w [&'a str]) -> Choice<'w, 'a>
     }
 }
 
+// Each command has a name, so that words can choose it.
+#[tactic(auto, using(crate::proofs::EachNamed::each_named))]
 fn choose_command<'w, 'a>(command: Command, words: &'w [&'a str]) -> Choice<'w, 'a>
-    ensures { choice_told result ≡ command_chosen command words.entry.now }
+    ensures choice { choice_told result ≡ command_chosen command words.entry.now }
+    ensures named { IsNamed command }
 {
     if words.contains(&"--help") {
         return Choice::Print(Page::Of(command));

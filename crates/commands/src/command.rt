@@ -1,7 +1,6 @@
 // The commands by their names.
 ghost use Rattle.std.specs.Prelude.{◌≡◌};
-ghost use Rattle.commands.specs.Names.{command_of, key_command_of, IsNamed};
-ghost use Rattle.commands.specs.declared.command.Command.{Command};
+ghost use Rattle.commands.specs.Names.{command_of, key_command_of};
 
 #[derive(Clone, Copy)]
 pub enum Command {
@@ -23,10 +22,9 @@ pub enum Command {
 
 impl Command {
     // The command that a first word names.
-    #[tactic(auto, using(scripts::proofs::TableLemmas::row_read, crate::proofs::EachNamed::each_named))]
+    #[tactic(auto, using(scripts::proofs::TableLemmas::row_read))]
     pub(crate) fn named(word: &str) -> Option<Command>
-        ensures word { result ≡ command_of word.now }
-        ensures each { (command : Command) → IsNamed command }
+        ensures { result ≡ command_of word.now }
     {
         match word.as_bytes() {
             b"seal" => Some(Command::Seal),

@@ -1,4 +1,4 @@
-use Rattle.std.proofs.Common.{◌+◌, [], drop}
+use Rattle.std.proofs.Common.{[]}
 use Rattle.std.specs.Borrow.{Bor}
 use Rattle.std.proofs.lemmas.List.{drop_more}
 use Rattle.scripts.specs.Words.{Bytes}
