@@ -1,6 +1,9 @@
 // The commands by their names.
+ghost use Rattle.std.specs.Prelude.{◌≡◌};
+ghost use Rattle.commands.specs.Names.{command_of, key_command_of};
+
 #[derive(Clone, Copy)]
-pub(crate) enum Command {
+pub enum Command {
     KeyNew,
     KeyPublic,
     KeyShow,
@@ -19,7 +22,10 @@ pub(crate) enum Command {
 
 impl Command {
     // The command that a first word names.
-    pub(crate) fn named(word: &str) -> Option<Command> {
+    #[tactic(auto, using(scripts::proofs::TableLemmas::row_read))]
+    pub(crate) fn named(word: &str) -> Option<Command>
+        ensures { result ≡ command_of word.now }
+    {
         match word.as_bytes() {
             b"seal" => Some(Command::Seal),
             b"check" => Some(Command::Check),
@@ -37,7 +43,10 @@ impl Command {
     }
 
     // The command that the word behind `key` names.
-    pub(crate) fn of_keys(word: &str) -> Option<Command> {
+    #[tactic(auto, using(scripts::proofs::TableLemmas::row_read))]
+    pub(crate) fn of_keys(word: &str) -> Option<Command>
+        ensures { result ≡ key_command_of word.now }
+    {
         match word.as_bytes() {
             b"new" => Some(Command::KeyNew),
             b"public" => Some(Command::KeyPublic),

@@ -1,12 +1,17 @@
 // Two changes to one sheet, told line by line.
+ghost use Rattle.std.specs.Prelude.{◌≡◌};
+ghost use Rattle.std.specs.List.{flat_map};
+ghost use Rattle.sheets.specs.Blocks.{blocks_of};
+
+use crate::contents::findings_of;
 use crate::problem::Problem;
 use crate::words::Words;
 use answers::BlockNumber;
-use desk::{OpenFile, open_file, pack_file, seal_part};
+use desk::{OpenFile, Stop, open_file, pack_file, seal_part};
 use digests::Digest;
 use families::any::AnyFamily;
 use families::family::Family;
-use findings::{check_text, refusal_text};
+use findings::refusal_text;
 use keys::{Sealer, TagKey, draw};
 use scripts::Hex;
 use sha256::Sha256;
@@ -63,15 +68,17 @@ fn show_all<'a>(rt: &HostRuntime, sheet: &Sheet) -> Result<(), Problem<'a>> {
         let number = index + 1;
         println!(rt; "  {number:>2}  {block}").map_err(|error| Problem::Output(error))?;
     }
-    let digest = Hex(&joined_digest(sheet)[..8]);
+    let digest = Hex(&joined_digest::<Sha256>(sheet)[..8]);
     println!(rt; "  One digest of the whole text begins {digest}.").map_err(|error| Problem::Output(
         error,
     ))
 }
 
 // The digest of the blocks joined bare, with no frames.
-fn joined_digest(sheet: &Sheet) -> [u8; 32] {
-    let mut digest = Sha256::start();
+fn joined_digest<D: Digest>(sheet: &Sheet) -> [u8; 32]
+    ensures { result ≡ D.digest (flat_map (λ b. b) (blocks_of sheet.now)) }
+{
+    let mut digest = D::start();
     for block in sheet.blocks() {
         digest.take(block);
     }
@@ -81,12 +88,10 @@ fn joined_digest(sheet: &Sheet) -> [u8; 32] {
 fn tell_check<'a>(rt: &HostRuntime, opened: &OpenFile) -> Result<(), Problem<'a>> {
     let alloc = rt.alloc();
     let mut list = [0; 2];
-    let text = match opened.check(&mut list) {
-        Ok(count) => {
-            let named = &list[..count.min(2)];
-            check_text(alloc, &opened.sheet, opened.part.seal.number(), named)?
-        }
-        Err(refusal) => refusal_text(alloc, refusal)?,
+    let text = match findings_of(alloc, opened, &mut list) {
+        Ok(text) => text,
+        Err(Stop::Refused(refusal)) => refusal_text(alloc, refusal)?,
+        Err(Stop::OutOfMemory(error)) => return Err(Problem::from(error)),
     };
     rt.print("\nnazkoiber check\n")
         .map_err(|error| Problem::Output(error))?;
@@ -107,7 +112,7 @@ fn tell_slip<'a>(rt: &HostRuntime, opened: &mut OpenFile) -> Result<(), Problem<
     let _ = opened.sheet.rewrite(PLATE, SHEET[0].as_bytes())?;
     let _ = opened.sheet.rewrite(BlockNumber(4), b"axle 2 left 101")?;
     let _ = opened.sheet.rewrite(BlockNumber(5), b"5 right 998 daN ")?;
-    let digest = Hex(&joined_digest(&opened.sheet)[..8]);
+    let digest = Hex(&joined_digest::<Sha256>(&opened.sheet)[..8]);
     println!(rt;
         "  One digest of the whole text begins {digest} as before: a signature of it says nothing."
     ).map_err(|error| Problem::Output(error))?;

@@ -1,43 +1,18 @@
 // Running the command that the words of a command line name.
+use crate::choice::{Choice, choose};
 use crate::command::Command;
 use crate::demo::demo;
 use crate::keeping::{new_key, public_part, show_key};
 use crate::office::{check, confirm, excerpt, lines, part, rewrite, show, vouch};
 use crate::problem::Problem;
 use crate::sealing::seal;
-use crate::usage::{KEYS, OVERVIEW};
 use crate::words::Words;
 
 pub fn run<'a>(rt: &HostRuntime, words: &[&'a str]) -> Result<(), Problem<'a>> {
-    let Some((word, rest)) = words.split_first() else {
-        return Err(Problem::Usage("which command?", OVERVIEW));
-    };
-    if is_help(word) {
-        return print(rt, OVERVIEW);
-    }
-    if *word == "key" {
-        return run_key(rt, rest);
-    }
-    match Command::named(word) {
-        Some(command) => run_command(rt, command, rest),
-        None => Err(Problem::Usage("no such command", OVERVIEW)),
-    }
-}
-
-fn is_help(word: &str) -> bool {
-    word == "--help" || word == "help"
-}
-
-fn run_key<'a>(rt: &HostRuntime, words: &[&'a str]) -> Result<(), Problem<'a>> {
-    let Some((word, rest)) = words.split_first() else {
-        return Err(Problem::Usage("which command on keys?", KEYS));
-    };
-    if is_help(word) {
-        return print(rt, KEYS);
-    }
-    match Command::of_keys(word) {
-        Some(command) => run_command(rt, command, rest),
-        None => Err(Problem::Usage("no such command on keys", KEYS)),
+    match choose(words) {
+        Choice::Print(page) => print(rt, page.text()),
+        Choice::Run(command, rest) => run_command(rt, command, rest),
+        Choice::Misused(what, page) => Err(Problem::Usage(what, page)),
     }
 }
 
@@ -46,9 +21,6 @@ fn run_command<'a>(
     command: Command,
     words: &[&'a str],
 ) -> Result<(), Problem<'a>> {
-    if words.contains(&"--help") {
-        return print(rt, command.usage());
-    }
     let words = Words::split(rt.alloc(), command, words)?;
     match command {
         Command::KeyNew => new_key(rt, &words),

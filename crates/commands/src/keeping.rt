@@ -1,4 +1,5 @@
 // Keys and their files.
+use crate::misuse::Misuse;
 use crate::problem::{Problem, key_problem};
 use crate::words::Words;
 use keyfiles::{KeyFile, KeyWords, LmsWords, TagWords};
@@ -15,7 +16,7 @@ pub(crate) fn new_key<'a>(rt: &HostRuntime, words: &Words<'a>) -> Result<(), Pro
     let key = match words.at(0).as_bytes() {
         b"tag" => new_tag(rt, words)?,
         b"lms" => new_lms(rt, words)?,
-        _ => return Err(words.wrong("a key is tag or lms")),
+        _ => return Err(words.wrong(Misuse::NoSuchKind)),
     };
     write_key(rt, words.at(1), &KeyFile::Key(key), Access::Owner)
 }
@@ -67,7 +68,7 @@ fn name<'a>(rt: &HostRuntime, words: &Words<'a>) -> Result<[u8; 8], Problem<'a>>
     };
     match decode_array::<8>(rt.alloc(), word.as_bytes()) {
         Ok(name) => Ok(name),
-        Err(_) => Err(words.wrong("a name is 16 lower-case hex digits")),
+        Err(_) => Err(words.wrong(Misuse::NotAName)),
     }
 }
 
@@ -83,7 +84,7 @@ fn new_tag<'a>(rt: &HostRuntime, words: &Words<'a>) -> Result<KeyWords, Problem<
 // The name of an LMS key is the first half of its identifier.
 fn new_lms<'a>(rt: &HostRuntime, words: &Words<'a>) -> Result<KeyWords, Problem<'a>> {
     if words.option("--digest").is_some() {
-        return Err(words.wrong("an LMS key has no choice of digest"));
+        return Err(words.wrong(Misuse::NoChoiceOfDigest));
     }
     let mut id = random::<16>(rt)?;
     id[..8].copy_from_slice(&name(rt, words)?);

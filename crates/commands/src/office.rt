@@ -1,12 +1,9 @@
 // The commands on sheets, sealed files, seal parts and excerpts.
+use crate::contents::{excerpt_of, findings_of, lines_of, part_of, rewritten, sealed_text_of};
 use crate::keeping::read_key;
 use crate::problem::Problem;
 use crate::words::Words;
-use desk::{open_file, open_part, pack_file};
-use files::unpack;
-use findings::{check_text, file_text};
-use reports::text_report;
-use sheets::Sheet;
+use desk::{open_file, open_part};
 use store::Access;
 
 // The bytes of the longest sheet, and of the longest sealed file.
@@ -41,9 +38,7 @@ pub(crate) fn check<'a>(rt: &HostRuntime, words: &Words<'a>) -> Result<(), Probl
     let file = read(rt, path, MAX_FILE)?;
     let opened = open_file(rt.alloc(), &inspector, &file)?;
     let mut list = [0; 512];
-    let count = opened.check(&mut list)?;
-    let named = &list[..count.min(512)];
-    let text = check_text(rt.alloc(), &opened.sheet, opened.part.seal.number(), named)?;
+    let text = findings_of(rt.alloc(), &opened, &mut list)?;
     print(rt, &text)
 }
 
@@ -53,12 +48,7 @@ pub(crate) fn rewrite<'a>(rt: &HostRuntime, words: &Words<'a>) -> Result<(), Pro
     let block = words.block(block)?;
     let file = read(rt, path, MAX_FILE)?;
     let bytes = read(rt, text, MAX_TEXT)?;
-    let mut sheet = Sheet::new(rt.alloc())?;
-    let (place, length) = unpack(&mut sheet, &file)?;
-    let _ = sheet.rewrite(block, &bytes)?;
-    let part = file.get(place..).unwrap_or(&[]);
-    let part = part.get(..length).unwrap_or(&[]);
-    write_new(rt, out, &pack_file(rt.alloc(), &sheet, part)?)
+    write_new(rt, out, &rewritten(rt.alloc(), &file, block, &bytes)?)
 }
 
 pub(crate) fn vouch<'a>(rt: &HostRuntime, words: &Words<'a>) -> Result<(), Problem<'a>> {
@@ -89,9 +79,8 @@ pub(crate) fn excerpt<'a>(rt: &HostRuntime, words: &Words<'a>) -> Result<(), Pro
     let inspector = read_key(rt, key)?.inspector();
     let file = read(rt, path, MAX_FILE)?;
     let opened = open_file(rt.alloc(), &inspector, &file)?;
-    let mut room = vec![in rt.alloc(); 0; EXCERPT_ROOM]?;
-    let length = opened.excerpt(block, row, &mut room)?;
-    write_new(rt, out, room.get(..length).unwrap_or(&[]))
+    let excerpt = excerpt_of(rt.alloc(), &opened, block, row, EXCERPT_ROOM)?;
+    write_new(rt, out, &excerpt)
 }
 
 pub(crate) fn confirm<'a>(rt: &HostRuntime, words: &Words<'a>) -> Result<(), Problem<'a>> {
@@ -120,26 +109,19 @@ pub(crate) fn part<'a>(rt: &HostRuntime, words: &Words<'a>) -> Result<(), Proble
     words.expect(2, &[])?;
     let (path, out) = (words.at(0), words.at(1));
     let file = read(rt, path, MAX_FILE)?;
-    let mut sheet = Sheet::new(rt.alloc())?;
-    let (place, length) = unpack(&mut sheet, &file)?;
-    let part = file.get(place..).unwrap_or(&[]);
-    write_new(rt, out, part.get(..length).unwrap_or(&[]))
+    write_new(rt, out, part_of(rt.alloc(), &file)?)
 }
 
 pub(crate) fn show<'a>(rt: &HostRuntime, words: &Words<'a>) -> Result<(), Problem<'a>> {
     words.expect(1, &[])?;
     let path = words.at(0);
     let file = read(rt, path, MAX_FILE)?;
-    let mut sheet = Sheet::new(rt.alloc())?;
-    let _ = unpack(&mut sheet, &file)?;
-    print(rt, &file_text(rt.alloc(), &file)?)
+    print(rt, &sealed_text_of(rt.alloc(), &file)?)
 }
 
 pub(crate) fn lines<'a>(rt: &HostRuntime, words: &Words<'a>) -> Result<(), Problem<'a>> {
     words.expect(1, &[])?;
     let path = words.at(0);
     let text = read(rt, path, MAX_TEXT)?;
-    let mut sheet = Sheet::new(rt.alloc())?;
-    let _ = sheet.cut(&text)?;
-    print(rt, &text_report(rt.alloc(), &text)?)
+    print(rt, &lines_of(rt.alloc(), &text)?)
 }

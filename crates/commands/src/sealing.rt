@@ -1,4 +1,7 @@
 // Sealing a sheet under a number of a key's file.
+ghost use Rattle.std.specs.Prelude.{◌≡◌};
+ghost use Rattle.commands.specs.Problems.{is_busy, lock_problem};
+
 use crate::keeping::MAX_KEY;
 use crate::office::{MAX_TEXT, read, write_new};
 use crate::problem::{Problem, key_problem};
@@ -68,9 +71,19 @@ fn put_back<'a>(
         .map_err(|error| Problem::File(path, error))
 }
 
-fn lock_problem(path: &str, error: io::Error) -> Problem<'_> {
-    match error.kind() {
-        io::ErrorKind::ResourceBusy => Problem::InUse(path),
-        _ => Problem::File(path, error),
+fn lock_problem(path: &str, error: io::Error) -> Problem<'_>
+    ensures { result ≡ lock_problem path.entry error }
+{
+    if is_busy(error.kind()) {
+        Problem::InUse(path)
+    } else {
+        Problem::File(path, error)
     }
+}
+
+#[tactic(auto, using(crate::proofs::ErrorKinds::not_busy), unfolding(crate::specs::Problems::is_busy))]
+fn is_busy(kind: io::ErrorKind) -> bool
+    ensures { result ≡ is_busy kind }
+{
+    matches!(kind, io::ErrorKind::ResourceBusy)
 }

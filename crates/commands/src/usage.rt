@@ -1,7 +1,10 @@
 // How the commands are used.
+ghost use Rattle.std.specs.Prelude.{◌≡◌};
+ghost use Rattle.commands.specs.Usages.{usage_text, page_text};
+
 use crate::command::Command;
 
-pub(crate) const OVERVIEW: &str = "\
+const OVERVIEW: &str = "\
 usage: nazkoiber COMMAND ..
 
 Keys
@@ -30,7 +33,7 @@ nazkoiber COMMAND --help says more. No command overwrites a file, but that a
 key's file is written anew for each number that it draws.
 ";
 
-pub(crate) const KEYS: &str = "\
+const KEYS: &str = "\
 usage: nazkoiber key new tag|lms FILE [--name HEX] [--digest sha256|blake2s]
        nazkoiber key public FILE OUT
        nazkoiber key show FILE
@@ -144,8 +147,30 @@ usage: nazkoiber replay
 Runs a script of calls from standard input, and prints what each answered.
 ";
 
+// A usage that is printed as a whole.
+#[derive(Clone, Copy)]
+pub enum Page {
+    Overview,
+    Keys,
+    Of(Command),
+}
+
+impl Page {
+    pub(crate) fn text(self) -> &'static str
+        ensures { result.now ≡ page_text self }
+    {
+        match self {
+            Page::Overview => OVERVIEW,
+            Page::Keys => KEYS,
+            Page::Of(command) => command.usage(),
+        }
+    }
+}
+
 impl Command {
-    pub(crate) fn usage(self) -> &'static str {
+    fn usage(self) -> &'static str
+        ensures { result.now ≡ usage_text self }
+    {
         match self {
             Command::KeyNew => KEY_NEW,
             Command::KeyPublic => KEY_PUBLIC,

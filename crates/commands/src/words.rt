@@ -1,6 +1,14 @@
 // The words behind a command: what it works on, and its options.
+ghost use Rattle.std.specs.Prelude.{◌≡◌};
+ghost use Rattle.std.specs.List.{list_all};
+ghost use Rattle.std.specs.Result.{result_map_both};
+ghost use Rattle.answers.specs.Numbers.{block_number, row_number};
+ghost use Rattle.commands.specs.Readings.{reading_of, Splits, is_option, is_among, expected, word_at, value_of, number_said, digest_said};
+
 use crate::command::Command;
+use crate::misuse::Misuse;
 use crate::problem::Problem;
+use crate::usage::Page;
 use answers::{BlockNumber, RowNumber};
 use scripts::parse_number;
 use std::alloc::Global;
@@ -19,7 +27,9 @@ impl<'a> Words<'a> {
         alloc: Global,
         command: Command,
         words: &[&'a str],
-    ) -> Result<Words<'a>, Problem<'a>> {
+    ) -> Result<Words<'a>, Problem<'a>>
+        ensures { Splits command words.now result }
+    {
         let mut operands = Vec::new(alloc);
         let mut options = Vec::new(alloc);
         let mut name = None;
@@ -27,14 +37,14 @@ impl<'a> Words<'a> {
             if let Some(option) = name {
                 options.push((option, word))?;
                 name = None;
-            } else if word.starts_with("--") {
+            } else if is_option(word) {
                 name = Some(word);
             } else {
                 operands.push(word)?;
             }
         }
         if name.is_some() {
-            return Err(Problem::Usage("an option lacks its word", command.usage()));
+            return Err(Problem::Usage(Misuse::LackingWord, Page::Of(command)));
         }
         Ok(Words {
             command,
@@ -43,25 +53,29 @@ impl<'a> Words<'a> {
         })
     }
 
-    pub(crate) fn wrong(&self, what: &'static str) -> Problem<'a> {
-        Problem::Usage(what, self.command.usage())
+    pub(crate) fn wrong(&self, what: Misuse) -> Problem<'a>
+        ensures { result ≡ Problem.Usage what (Page.Of self.now.command) }
+    {
+        Problem::Usage(what, Page::Of(self.command))
     }
 
     // Just so many words, and no option but these.
-    pub(crate) fn expect(&self, count: usize, options: &[&str]) -> Result<(), Problem<'a>> {
-        for (name, _) in self.options.iter() {
-            if !is_among(options, name) {
-                return Err(self.wrong("no such option"));
-            }
+    pub(crate) fn expect(&self, count: usize, options: &[&str]) -> Result<(), Problem<'a>>
+        ensures { result ≡ expected (reading_of self.now) count options.now }
+    {
+        if !are_among(options, &self.options) {
+            return Err(self.wrong(Misuse::NoSuchOption));
         }
         if self.operands.len() != count {
-            return Err(self.wrong("too few or too many words"));
+            return Err(self.wrong(Misuse::WordCount));
         }
         Ok(())
     }
 
     // The word with that place, counted from 0.
-    pub(crate) fn at(&self, place: usize) -> &'a str {
+    pub(crate) fn at(&self, place: usize) -> &'a str
+        ensures { result.now ≡ word_at (reading_of self.now) place }
+    {
         match self.operands.get(place) {
             Some(word) => word,
             None => "",
@@ -69,7 +83,9 @@ impl<'a> Words<'a> {
     }
 
     // The word behind an option, the last of them.
-    pub(crate) fn option(&self, name: &str) -> Option<&'a str> {
+    pub(crate) fn option(&self, name: &str) -> Option<&'a str>
+        ensures { result ≡ value_of name.now (reading_of self.now) }
+    {
         let mut found = None;
         for &(option, word) in self.options.iter() {
             if option == name {
@@ -79,33 +95,56 @@ impl<'a> Words<'a> {
         found
     }
 
-    pub(crate) fn number(&self, word: &str) -> Result<u16, Problem<'a>> {
+    pub(crate) fn number(&self, word: &str) -> Result<u16, Problem<'a>>
+        ensures { result ≡ number_said self.now.command word.now }
+    {
         match parse_number(word.as_bytes(), u32::from(u16::MAX)) {
             Some(number) => Ok(number as u16),
-            None => Err(self.wrong("not a number up to 65535")),
+            None => Err(self.wrong(Misuse::NotANumber)),
         }
     }
 
-    pub(crate) fn block(&self, word: &str) -> Result<BlockNumber, Problem<'a>> {
+    pub(crate) fn block(&self, word: &str) -> Result<BlockNumber, Problem<'a>>
+        ensures { result ≡ result_map_both block_number (λ e. e) (number_said self.now.command word.now) }
+    {
         Ok(BlockNumber(self.number(word)?))
     }
 
-    pub(crate) fn row(&self, word: &str) -> Result<RowNumber, Problem<'a>> {
+    pub(crate) fn row(&self, word: &str) -> Result<RowNumber, Problem<'a>>
+        ensures { result ≡ result_map_both row_number (λ e. e) (number_said self.now.command word.now) }
+    {
         Ok(RowNumber(self.number(word)?))
     }
 
     // SHA-256 where no option names a digest.
-    pub(crate) fn digest(&self) -> Result<Algorithm, Problem<'a>> {
+    pub(crate) fn digest(&self) -> Result<Algorithm, Problem<'a>>
+        ensures { result ≡ digest_said (reading_of self.now) }
+    {
         let Some(word) = self.option("--digest") else {
             return Ok(Algorithm::Sha256);
         };
         match Algorithm::named(word.as_bytes()) {
             Some(digest) => Ok(digest),
-            None => Err(self.wrong("no such digest")),
+            None => Err(self.wrong(Misuse::NoSuchDigest)),
         }
     }
 }
 
-fn is_among(options: &[&str], name: &str) -> bool {
+#[tactic(auto, using(std::proofs::lemmas::Str::Pattern::starts_text))]
+fn is_option(word: &str) -> bool
+    ensures { result ≡ is_option word.now }
+{
+    word.starts_with("--")
+}
+
+fn are_among(options: &[&str], given: &[(&str, &str)]) -> bool
+    ensures { result ≡ list_all (λ o. is_among options.now o.0.now) given.now }
+{
+    given.iter().all(|(name, _)| is_among(options, name))
+}
+
+fn is_among(options: &[&str], name: &str) -> bool
+    ensures { result ≡ is_among options.now name.now }
+{
     options.iter().any(|option| *option == name)
 }

@@ -1,6 +1,10 @@
 // Reading and writing whole files, so that none is ever seen half written. No contract can say what a file holds: `reference/try_tool.py` tries these.
 #![tactic(auto)]
 
+ghost use Rattle.std.specs.Prelude.{◌≡◌, IfOk, string_bytes};
+ghost use Rattle.store.specs.Making.{mode_of, beside_of};
+
+use std::alloc::{AllocError, Global};
 use std::fs::{File, OpenOptions};
 use std::io::{Read, Write};
 use std::os::unix::fs::{MetadataExt, OpenOptionsExt};
@@ -16,7 +20,9 @@ pub enum Access {
 }
 
 impl Access {
-    fn mode(self) -> u32 {
+    fn mode(self) -> u32
+        ensures { result ≡ mode_of self }
+    {
         match self {
             Access::Owner => 0o600,
             Access::All => 0o666,
@@ -101,8 +107,13 @@ fn write_beside(rt: &HostRuntime, path: &str, bytes: &[u8], access: Access) -> i
 fn name_beside(rt: &HostRuntime, path: &str) -> io::Result<String> {
     let mut bytes = [0; 8];
     rt.fill_bytes(&mut bytes)?;
-    let number = u64::from_le_bytes(bytes);
-    Ok(format!(in rt.alloc(); "{path}.{number}.nazkoiber-new")?)
+    Ok(beside(rt.alloc(), path, u64::from_le_bytes(bytes))?)
+}
+
+fn beside(alloc: Global, path: &str, number: u64) -> Result<String, AllocError>
+    ensures { IfOk result (λ s. string_bytes s ≡ beside_of path.now number) }
+{
+    format!(in alloc; "{path}.{number}.nazkoiber-new")
 }
 
 fn fill(mut file: File, bytes: &[u8]) -> io::Result<()> {

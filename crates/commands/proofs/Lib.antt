@@ -1,0 +1,4 @@
+mod Splitting
+mod ErrorKinds
+mod Fronts
+mod EachNamed
