@@ -1,4 +1,4 @@
-// Two changes to one sheet, told line by line.
+// Changes to one sheet, told line by line.
 ghost use Rattle.std.specs.Prelude.{◌≡◌};
 ghost use Rattle.std.specs.List.{flat_map};
 ghost use Rattle.sheets.specs.Blocks.{blocks_of};

@@ -18,7 +18,7 @@ Sheets
                              exchange the text of a block
   show FILE                  what a sealed file says
   lines FILE                 the blocks of a sheet, before it is sealed
-One block, without the sheet
+One block
   vouch KEY FILE BLOCK TEXT  tell by a row whether bytes are a block's sealed ones
   excerpt KEY FILE BLOCK ROW OUT
                              write the other blocks of that row
@@ -26,7 +26,7 @@ One block, without the sheet
   confirm KEY PART BLOCK ROW TEXT EXCERPT
                              tell by the seal part and the excerpt alone
 Besides
-  demo                       two changes to a sheet, told line by line
+  demo                       changes to a sheet, told line by line
   replay                     run a script of calls from standard input
 
 nazkoiber COMMAND --help says more. No command overwrites a file, but that a
@@ -137,8 +137,8 @@ Prints the number and the length of each block that a text is cut into.
 const DEMO: &str = "\
 usage: nazkoiber demo
 
-Tells, line by line, of a plate that is typed in after the test, and of a
-digit that slips from one block to the next.
+Tells, line by line, of a plate that is typed in after the test, of a digit
+that slips from one block to the next, and of one change too many.
 ";
 
 const REPLAY: &str = "\
