@@ -1,7 +1,7 @@
 -- What the commands make of the bytes of files. Assumes nothing.
 use Rattle.std.specs.Prelude.{ℕ, List, [], length, Ok, Result}
 use Rattle.answers.specs.declared.Refusal.{Refusal}
-use Rattle.desk.specs.Named.{on_ok}
+use Rattle.answers.specs.Refusals.{on_ok}
 use Rattle.files.specs.File.{file_of, pack_answer, seal_of, blocks_of_file, unpack_answer}
 use Rattle.findings.specs.Checked.{check_text}
 use Rattle.findings.specs.Sealed.{file_text}
