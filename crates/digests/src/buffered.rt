@@ -8,13 +8,8 @@ ghost use Rattle.digests.specs.Took.{Took};
 use crate::Digest;
 
 // The part of a digest that works on whole blocks: it absorbs one after the other, and finishes with a last piece of at most one block.
-// Four members are a digest's too: a trait above both would be a third for these alone.
+// Two members are a digest's too: a trait above both would be a third for these alone.
 pub trait Compressor: Sized {
-    // The number by which a seal names the digest.
-    const KIND: u8;
-
-    ghost KIND: { ℕ };
-
     // The answer to all bytes.
     ghost digest: { Bytes → Bytes };
 
@@ -33,9 +28,16 @@ pub trait Compressor: Sized {
         requires { length last.now ≤ 64 }
         ensures { (bs : Bytes) → absorbed self bs → (1 ≤ length last.now) ⊎ (bs ≡ []) → result ≡ digest (bs ++ last.now) };
 
-    ghost kind_range: { (1 ≤ KIND) × (KIND ≤ 255) };
-
     ghost thirty_two: { (bs : Bytes) → length (digest bs) ≡ 32 };
+}
+
+// What a seal names by a number. Apart from `Compressor`, so that bytes are buffered for one that no seal names, too.
+pub trait Numbered {
+    const KIND: u8;
+
+    ghost KIND: { ℕ };
+
+    ghost kind_range: { (1 ≤ KIND) × (KIND ≤ 255) };
 }
 
 // A compressor with the bytes that it has not absorbed yet. A full block waits until more bytes come, since it may be the last.
@@ -47,7 +49,47 @@ pub struct Buffered<C> {
     ghost within: { count ≤ 64 },
 }
 
-impl<C: Compressor> Digest for Buffered<C> {
+impl<C: Compressor> Buffered<C> {
+    pub fn start() -> Buffered<C>
+        ensures { Took C.absorbed result.inner (take result.count result.held) [] }
+    {
+        Buffered {
+            inner: C::begin(),
+            held: [0; 64],
+            count: 0,
+        }
+    }
+
+    pub fn take(&mut self, piece: &[u8])
+        ensures { (bs : Bytes) → Took C.absorbed self.old.inner (take self.old.count self.old.held) bs
+            → Took C.absorbed self.new.inner (take self.new.count self.new.held) (bs ++ piece.now) }
+    {
+        let room = 64 - self.count;
+        if piece.len() <= room {
+            hold(&mut self.held, self.count, piece);
+            self.count += piece.len();
+            return;
+        }
+        let (first, rest) = piece.split_at(room);
+        hold(&mut self.held, self.count, first);
+        self.inner.absorb(&self.held);
+        let (blocks, last) = split_blocks(rest);
+        for block in blocks {
+            self.inner.absorb(block);
+        }
+        hold(&mut self.held, 0, last);
+        self.count = last.len();
+    }
+
+    pub fn end(self) -> [u8; 32]
+        ensures { (bs : Bytes) → Took C.absorbed self.inner (take self.count self.held) bs → result ≡ C.digest bs }
+    {
+        let Buffered { inner, held, count } = self;
+        inner.finish(&held[..count])
+    }
+}
+
+impl<C: Compressor + Numbered> Digest for Buffered<C> {
     const KIND: u8 = C::KIND;
 
     ghost KIND = { C.KIND };
@@ -67,34 +109,15 @@ impl<C: Compressor> Digest for Buffered<C> {
     ghost thirty_two = { C.thirty_two };
 
     fn start() -> Buffered<C> {
-        Buffered {
-            inner: C::begin(),
-            held: [0; 64],
-            count: 0,
-        }
+        Buffered::start()
     }
 
     fn take(&mut self, piece: &[u8]) {
-        let room = 64 - self.count;
-        if piece.len() <= room {
-            hold(&mut self.held, self.count, piece);
-            self.count += piece.len();
-            return;
-        }
-        let (first, rest) = piece.split_at(room);
-        hold(&mut self.held, self.count, first);
-        self.inner.absorb(&self.held);
-        let (blocks, last) = split_blocks(rest);
-        for block in blocks {
-            self.inner.absorb(block);
-        }
-        hold(&mut self.held, 0, last);
-        self.count = last.len();
+        self.take(piece);
     }
 
     fn end(self) -> [u8; 32] {
-        let Buffered { inner, held, count } = self;
-        inner.finish(&held[..count])
+        self.end()
     }
 }
 

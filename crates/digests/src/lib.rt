@@ -12,7 +12,7 @@ mod compare;
 mod mac;
 mod words;
 
-pub use buffered::{Buffered, Compressor};
+pub use buffered::{Buffered, Compressor, Numbered};
 pub use compare::same_bytes;
 pub use mac::hmac;
 pub use words::join_words;

@@ -7,7 +7,7 @@ ghost use Rattle.sha256.specs.Hashed.{length_sha256_of};
 
 use crate::block::compress;
 use crate::state::State;
-use digests::{Compressor, join_words};
+use digests::{Compressor, Numbered, join_words};
 
 // A hash value, and how many bytes went into it, modulo 2^64.
 pub struct Chain {
@@ -15,16 +15,18 @@ pub struct Chain {
     count: u64,
 }
 
-impl Compressor for Chain {
+impl Numbered for Chain {
     const KIND: u8 = 1;
 
     ghost KIND = { 1 };
 
+    ghost kind_range = { Prim.search rules };
+}
+
+impl Compressor for Chain {
     ghost digest = { sha256_of };
 
     ghost absorbed = { Absorbed };
-
-    ghost kind_range = { Prim.search rules };
 
     ghost thirty_two = { length_sha256_of };
 

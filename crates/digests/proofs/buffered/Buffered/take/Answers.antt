@@ -4,7 +4,7 @@ use Rattle.std.proofs.lemmas.List.{take-append-drop, take_all}
 use Rattle.digests.specs.Strings.{Bytes}
 use Rattle.digests.specs.Took.{Took}
 use Rattle.digests.proofs.Held.{turned_over}
-use Rattle.digests.proofs.buffered.BufferedDigest.take.Goals as goal
+use Rattle.digests.proofs.buffered.Buffered.take.Goals as goal
 
 pub returns : goal.returns
 returns g c bs t =

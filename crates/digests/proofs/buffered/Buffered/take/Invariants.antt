@@ -1,7 +1,7 @@
 use Rattle.std.proofs.Common.{◌++◌, take}
 use Rattle.std.specs.List.{flat_map}
 use Rattle.digests.specs.Strings.{Bytes}
-use Rattle.digests.proofs.buffered.BufferedDigest.take.Given as goal
+use Rattle.digests.proofs.buffered.Buffered.take.Given as goal
 
 -- the blocks so far are absorbed
 abbrev pub invariant-loop-block : goal.invariant-loop-block
