@@ -1,14 +1,11 @@
--- A text cut at its line ends is its lines, and so is one that `split_inclusive` cuts.
-use Rattle.std.proofs.Common.{◌≡◌, ℕ, zero, suc, ◌+◌, ◌-◌, ◌<◌, ◌≤◌, min, Option, None, MatchOption, Bor, Bool, true, false, cond, ◌||◌, eqb, List, [], ◌∷◌, ◌++◌, length, drop, sym, refl, ap, ◌∙◌, subst, append_assoc, add-zero, arith}
-use denote.Param.Members.{Mut}
-use Rattle.std.specs.Fn.{ComputesKey}
-use Rattle.std.specs.Iterator.{Yields}
-use Rattle.std.specs.List.{flat_map, IsFirstMatchOrLen}
-use Rattle.std.specs.Slice.Iter.{split_inclusive_rest, split_inclusive_callee}
-use Rattle.std.specs.declared.slice.SplitInclusive.{SplitInclusive}
+-- A text cut at its line ends is its lines; its line ends are the places behind each 0A, and the last piece's where that has none.
+use Rattle.std.proofs.Common.{◌≡◌, ℕ, suc, ◌+◌, ◌-◌, ◌<◌, ◌≤◌, Bool, true, false, cond, not, ◌&&◌, ◌||◌, eqb, List, [], ◌∷◌, ◌++◌, length, get_or, drop, sym, refl, ap, ◌∙◌, subst, append_assoc, add-zero, zero-add, arith, count_by, length-append}
+use mir.Val.{bool_byte}
+use Rattle.std.specs.List.{flat_map}
 use Rattle.std.proofs.lemmas.Bool.{false≢true}
 use Rattle.std.proofs.lemmas.Bool.Decides.{nat_tests}
-use Rattle.std.proofs.lemmas.List.{take_at, drop_at, length_push, nil_from_length}
+use Rattle.std.proofs.lemmas.List.Sums.{sum_by-cons}
+use Rattle.std.proofs.lemmas.List.{append-nil, at_drop_more, at_drop_all, take_at, drop_at, length_push}
 use Rattle.sheets.specs.Table.{Bytes, pieces, line_ends}
 use Rattle.sheets.specs.Calls.{in_front, text_lines, all_lines, LinesOf}
 use Rattle.sheets.proofs.Pieces.{Rises, length_pieces}
@@ -16,54 +13,75 @@ use Rattle.sheets.proofs.Pieces.{Rises, length_pieces}
 not_last : (y : ℕ) (ys : Bytes) → eqb (length (y ∷ ys)) 0 ≡ false
 not_last y ys = grind (arith, nat_tests)
 
--- the first line of a text ends behind its first 0A, or else behind its last byte
-first_end : (at n i : ℕ) (bs : Bytes) → 0 < length bs → n ≡ min (i + 1) (length bs) → IsFirstMatchOrLen (λ y. eqb y 10) bs i
-    → line_ends at bs ≡ (at + n) ∷ line_ends (at + n) (drop n bs)
-first_end at n i [] h e f = absurd (omega arith)
-first_end at n i (x ∷ []) h e f =
-    let one : n ≡ 1 = omega arith in
-    rw one (elim (eqb x 10) as (λ v. cond (v || true) ((at + 1) ∷ []) [] ++ [] ≡ (at + 1) ∷ []) [ true ↦ refl | false ↦ refl ])
-first_end at n zero (x ∷ (y ∷ ys)) h e f =
-    let one : n ≡ 1 = omega arith in
-    let here : eqb x 10 ≡ true = f.1 (omega arith) 0 in
-    rw one (ap (λ v. cond (v || eqb (length (y ∷ ys)) 0) ((at + 1) ∷ []) [] ++ line_ends (at + 1) (y ∷ ys)) here)
-first_end at n (suc i) (x ∷ (y ∷ ys)) h e f =
+-- the places behind each 0A of a text whose first byte stands at a place
+abbrev pub marks : ℕ → Bytes → List ℕ
+marks at [] = []
+marks at (x ∷ xs) = cond (eqb x 10) ((at + 1) ∷ []) [] ++ marks (at + 1) xs
+
+-- whether the last piece lacks its 0A
+abbrev pub open_end : Bytes → Bool
+open_end bs = not (eqb (length bs) 0) && not (eqb (get_or bs (length bs - 1) 0) 10)
+
+open_on : (x y : ℕ) (ys : Bytes) → open_end (x ∷ (y ∷ ys)) ≡ open_end (y ∷ ys)
+open_on x y ys =
+    let long : length (x ∷ (y ∷ ys)) - 1 ≡ suc (length ys) = omega arith in
+    let short : length (y ∷ ys) - 1 ≡ length ys = omega arith in
+    simp (long, short, not_last x (y ∷ ys), not_last y ys)
+
+line_ends_are : (at : ℕ) (bs : Bytes) → line_ends at bs ≡ marks at bs ++ cond (open_end bs) ((at + length bs) ∷ []) []
+line_ends_are at [] = refl
+line_ends_are at (x ∷ []) =
+    elim (eqb x 10) as (λ v. cond (v || true) ((at + 1) ∷ []) [] ++ [] ≡ (cond v ((at + 1) ∷ []) [] ++ []) ++ cond (not v) ((at + 1) ∷ []) []) [ true ↦ refl | false ↦ refl ]
+line_ends_are at (x ∷ (y ∷ ys)) =
     let xs = y ∷ ys in
-    let m = min (i + 1) (length xs) in
-    let long : n ≡ suc m = omega arith in
-    let sum : at + 1 + m ≡ at + n = omega arith in
-    let here : eqb x 10 ≡ false = f.0 0 0 (omega arith) (omega arith) in
-    ap (λ v. cond (v || eqb (length xs) 0) ((at + 1) ∷ []) [] ++ line_ends (at + 1) xs) here
-    ∙ ap (λ v. cond v ((at + 1) ∷ []) [] ++ line_ends (at + 1) xs) (not_last y ys)
-    ∙ first_end (at + 1) m i (y ∷ ys) (omega arith) refl (λ k d l u. f.0 (suc k) d (omega arith) (omega arith), λ l d. f.1 (omega arith) d)
-    ∙ ap (λ k. k ∷ line_ends k (drop m xs)) sum
-    ∙ ap (λ t. (at + n) ∷ line_ends (at + n) t) (sym (ap (λ k. drop k (x ∷ xs)) long))
+    let here = cond (eqb x 10) ((at + 1) ∷ []) [] in
+    let sum : at + 1 + length xs ≡ at + length (x ∷ xs) = omega arith in
+    ap (λ v. cond (eqb x 10 || v) ((at + 1) ∷ []) [] ++ line_ends (at + 1) xs) (not_last y ys)
+    ∙ elim (eqb x 10) as (λ v. cond (v || false) ((at + 1) ∷ []) [] ++ line_ends (at + 1) xs ≡ cond v ((at + 1) ∷ []) [] ++ line_ends (at + 1) xs) [ true ↦ refl | false ↦ refl ]
+    ∙ ap (λ t. here ++ t) (line_ends_are (at + 1) (y ∷ ys))
+    ∙ sym (append_assoc here (marks (at + 1) xs) (cond (open_end xs) ((at + 1 + length xs) ∷ []) []))
+    ∙ ap (λ (n : ℕ). marks at (x ∷ xs) ++ cond (open_end xs) (n ∷ []) []) sum
+    ∙ ap (λ v. marks at (x ∷ xs) ++ cond v ((at + length (x ∷ xs)) ∷ []) []) (sym (open_on x y ys))
 
-pub next_line : (at : ℕ) (rest line left : Bytes) (i : ℕ) → rest ≡ line ++ left → length line ≡ min (i + 1) (length rest) → IsFirstMatchOrLen (λ y. eqb y 10) rest i → 0 < length rest
-    → line_ends at rest ≡ (at + length line) ∷ line_ends (at + length line) left
-next_line at rest line left i e l f h =
-    first_end at (length line) i rest h l f
-    ∙ ap (λ t. (at + length line) ∷ line_ends (at + length line) t) (ap (drop (length line)) e ∙ drop_at line left (length line) refl)
+count_marks : (at : ℕ) (bs : Bytes) → length (marks at bs) ≡ count_by (λ x. eqb x 10) bs
+count_marks at [] = refl
+count_marks at (x ∷ xs) =
+    elim (eqb x 10) as (λ v. length (cond v ((at + 1) ∷ []) [] ++ marks (at + 1) xs) ≡ cond v 1 0 + count_by (λ x. eqb x 10) xs) [
+      | true ↦ omega (arith, count_marks (at + 1) xs)
+      | false ↦ omega (arith, count_marks (at + 1) xs)
+    ]
+    ∙ sym (sum_by-cons (λ x. cond (eqb x 10) 1 0) x xs)
 
--- the parts that `split_inclusive` cuts a text into, where its closure tells 0A from other bytes
-module _ {F : Type 0} (g : Mut F (Bor ℕ × Unit {0}) Bool) where
-  abbrev steps : SplitInclusive ℕ F → Option (Bor Bytes) → SplitInclusive ℕ F → Type 0
-  steps s r t = MatchOption r ((length (split_inclusive_rest s) ≡ 0) × (t ≡ s))
-      (λ x. (split_inclusive_rest s ≡ x.now ++ split_inclusive_rest t)
-      × ((i : ℕ) × (length x.now ≡ min (i + 1) (length (split_inclusive_rest s)))
-      × ((p : ℕ → Bool) → ComputesKey g p (split_inclusive_callee s) → ComputesKey g p (split_inclusive_callee t) × IsFirstMatchOrLen p (split_inclusive_rest s) i))
-      × (0 < length (split_inclusive_rest s)))
+module _ (text : Bytes) where
+  pub line_ends_open : true ≡ open_end text → line_ends 0 text ≡ marks 0 text ++ length text ∷ []
+  line_ends_open e = line_ends_are 0 text ∙ ap (λ v. marks 0 text ++ cond v ((0 + length text) ∷ []) []) (sym e) ∙ ap (λ (n : ℕ). marks 0 text ++ n ∷ []) (zero-add (length text))
 
-  pub count_parts : (xs : List (Bor Bytes)) (s t u : SplitInclusive ℕ F) (at : ℕ) → ComputesKey g (λ y. eqb y 10) (split_inclusive_callee s) → Yields steps s xs t → steps t None u
-      → length xs ≡ length (line_ends at (split_inclusive_rest s))
-  count_parts [] s t u at key y stop =
-      let none : split_inclusive_rest s ≡ [] = nil_from_length (split_inclusive_rest s) (ap (λ z. length (split_inclusive_rest z)) y ∙ stop.0) in
-      sym (ap (λ t. length (line_ends at t)) none)
-  count_parts (x ∷ xs) s t u at key y stop =
-      let step = y.1 in
-      let first = step.1.2 (λ y. eqb y 10) key in
-      ap suc (count_parts xs y.0 t u (at + length x.now) first.0 y.2 stop)
-      ∙ sym (ap length (next_line at (split_inclusive_rest s) x.now (split_inclusive_rest y.0) step.1.0 step.0 step.1.1 first.1 step.2))
+  pub line_ends_closed : false ≡ open_end text → line_ends 0 text ≡ marks 0 text
+  line_ends_closed e = line_ends_are 0 text ∙ ap (λ v. marks 0 text ++ cond v ((0 + length text) ∷ []) []) (sym e) ∙ append-nil (marks 0 text)
+
+  pub line_ends_count : (v : Bool) → v ≡ open_end text → length (line_ends 0 text) ≡ count_by (λ x. eqb x 10) text + bool_byte v
+  line_ends_count true e = omega (arith, ap length (line_ends_open e), length_push (marks 0 text) (length text), count_marks 0 text)
+  line_ends_count false e = omega (arith, ap length (line_ends_closed e), count_marks 0 text)
+
+  pub marks_fit : length (marks 0 text) ≤ length (line_ends 0 text)
+  marks_fit = omega (arith, simp length-append at (ap length (line_ends_are 0 text)))
+
+  -- with no byte left all marks are made
+  pub all_made : (old new : List ℕ) (i : ℕ) → new ++ marks i (drop i text) ≡ old ++ marks 0 text → length text ≤ i → new ≡ old ++ marks 0 text
+  all_made old new i e h = sym (append-nil new) ∙ ap (λ t. new ++ t) (sym (at_drop_all (marks i) text i h)) ∙ e
+
+  -- the marks from an index on
+  module _ (i : ℕ) (h : i < length text) where
+    step : marks i (drop i text) ≡ cond (eqb (get_or text i 0) 10) ((i + 1) ∷ []) [] ++ marks (i + 1) (drop (i + 1) text)
+    step = at_drop_more (marks i) text i 0 h
+
+    pub marks_yes : get_or text i 0 ≡ 10 → marks i (drop i text) ≡ (i + 1) ∷ marks (i + 1) (drop (i + 1) text)
+    marks_yes e = step ∙ ap (λ (x : ℕ). cond (eqb x 10) ((i + 1) ∷ []) [] ++ marks (i + 1) (drop (i + 1) text)) e
+
+    pub marks_no : (get_or text i 0 ≡ 10 → ⊥) → marks i (drop i text) ≡ marks (i + 1) (drop (i + 1) text)
+    marks_no e =
+        let none : eqb (get_or text i 0) 10 ≡ false = grind (arith, nat_tests) in
+        step ∙ ap (λ v. cond v ((i + 1) ∷ []) [] ++ marks (i + 1) (drop (i + 1) text)) none
 
 -- a line begun with p
 abbrev begun : Bytes → List Bytes → List Bytes

@@ -1,5 +1,5 @@
 // The calls that change a sheet. Each first decides its answer, cause by cause, and changes the sheet only where that is good.
-ghost use Rattle.std.specs.Prelude.{◌≡◌, ◌+◌, ◌-◌, ◌≤◌, true, [], ◌∷◌, ◌++◌, map, length, take, drop, is_ok, vec_len, vec_capacity, OnErr, slice_index, slice_set, EachIndex};
+ghost use Rattle.std.specs.Prelude.{◌≡◌, ◌+◌, ◌-◌, ◌≤◌, true, not, ◌&&◌, [], ◌∷◌, ◌++◌, map, length, take, drop, is_ok, vec_len, vec_capacity, OnErr, ◌==◌, slice_index, slice_set, EachIndex};
 ghost use Rattle.sheets.specs.Blocks.{blocks_of, Stands};
 ghost use Rattle.sheets.specs.Calls.{text_lines, with_block, cut_answer, add_answer, rewrite_answer, after};
 ghost use Rattle.sheets.specs.Table.{max_bytes, line_ends};
@@ -126,7 +126,9 @@ impl Sheet {
 fn count_lines(text: &[u8]) -> usize
     ensures { result ≡ length (text_lines text.now) }
 {
-    text.split_inclusive(|byte| *byte == b'\n').count()
+    // A sum over all bytes takes several at once, and a `count` behind a `filter` one by one.
+    let ended: usize = text.iter().map(|byte| usize::from(*byte == b'\n')).sum();
+    ended + usize::from(ends_open(text))
 }
 
 fn push_line_ends(ends: &mut Vec<u16>, text: &[u8])
@@ -135,11 +137,21 @@ fn push_line_ends(ends: &mut Vec<u16>, text: &[u8])
     ensures items { ends.new.items ≡ ends.old.items ++ line_ends 0 text.now }
     ensures capacity { vec_capacity ends.new ≡ vec_capacity ends.old }
 {
-    let mut end = 0;
-    for line in text.split_inclusive(|byte| *byte == b'\n') {
-        end += line.len();
-        ends.push_reserved(end as u16);
+    for (index, byte) in text.iter().enumerate() {
+        if *byte == b'\n' {
+            ends.push_reserved((index + 1) as u16);
+        }
     }
+    if ends_open(text) {
+        ends.push_reserved(text.len() as u16);
+    }
+}
+
+// Whether the last piece has no 0A.
+fn ends_open(text: &[u8]) -> bool
+    ensures { result ≡ (not (length text.now == 0) && not (slice_index text.now (length text.now - 1) == 10)) }
+{
+    text.last().is_some_and(|byte| *byte != b'\n')
 }
 
 // Puts other bytes in place of those of a span: the old bytes turn to the end and are cut off, and the new ones turn from there to their place. No room beyond the result's is needed, as `splice` would need it.

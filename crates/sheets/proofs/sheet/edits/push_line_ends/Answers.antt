@@ -1,32 +1,48 @@
-use Rattle.std.proofs.Common.{◌≡◌, ◌+◌, ◌∷◌, ◌++◌, eqb, [], length, vec_items, sym, ap, ◌∙◌, append_assoc, rules, arith, length-append}
-use Rattle.std.proofs.lemmas.List.Sorted.{answers_always}
-use Rattle.std.specs.Slice.Iter.{split_inclusive_rest}
-use Rattle.sheets.specs.Table.{line_ends}
-use Rattle.sheets.proofs.Lines.{next_line}
+use Rattle.std.proofs.Common.{◌≡◌, ◌+◌, [], ◌∷◌, ◌++◌, length, drop, vec_items, vec_capacity, sym, ap, ◌∙◌, append_assoc, arith, length-append}
+use Rattle.sheets.proofs.Lines.{marks, marks_yes, marks_no, marks_fit, all_made, line_ends_open, line_ends_closed}
 use Rattle.sheets.proofs.sheet.edits.push_line_ends.Goals as goal
-use Rattle.sheets.proofs.sheet.edits.push_line_ends.Goals.{In-Some}
-
-first_line : (c : In-Some) → line_ends c.loop-line.end (split_inclusive_rest c.loop-line.line-iterator)
-    ≡ (c.loop-line.end + length c.in-Some.line.now) ∷ line_ends (c.loop-line.end + length c.in-Some.line.now) (split_inclusive_rest c.next.new.self)
-first_line c =
-    let step = c.in-Some.ensures.steps in
-    let first = step.1.2 (λ y. eqb y 10) (answers_always _ _ _ (λ f a r g called. search rules)) in
-    next_line c.loop-line.end (split_inclusive_rest c.loop-line.line-iterator) c.in-Some.line.now (split_inclusive_rest c.next.new.self) step.1.0 step.0 step.1.1 first.1 step.2
+use Rattle.sheets.proofs.sheet.edits.push_line_ends.Goals.{then-byte-eq10, else-byte-eq10}
 
 pub push_reserved-requires : goal.push_reserved-requires
 push_reserved-requires c =
-    let next = ap length (first_line (goal.at.push_reserved-requires c).In-Some) in
-    let all = simp length-append at (ap length c.loop-line.invariant.0) in
-    omega (arith, next, all, c.loop-line.invariant.2, c.loop-line.ends.ok.0, c.args.ends.now.ok.0)
+    let text = c.args.text.now in
+    let next = ap length (marks_yes text c.loop-index.index c.loop-index-test.true c.if-byte-eq10.true) in
+    let all = simp length-append at (ap length c.loop-index.invariant.0) in
+    omega (arith, next, all, marks_fit text, c.loop-index.invariant.1, c.loop-index.ends.ok.0, c.args.ends.now.ok.0)
 
-pub loop-line-preserved : goal.loop-line-preserved
-loop-line-preserved c =
-    let step = c.in-Some.ensures.steps in
-    let end = c.loop-line.end + length c.in-Some.line.now in
-    let left = split_inclusive_rest c.next.new.self in
-    let items = vec_items c.loop-line.ends in (
-      ap (λ t. t ++ line_ends end left) c.push_reserved.ensures.items
-          ∙ append_assoc items (end ∷ []) (line_ends end left) ∙ ap (λ t. items ++ t) (sym (first_line (goal.at.loop-line-preserved c).In-Some)) ∙ c.loop-line.invariant.0,
-      omega (arith, c.loop-line.invariant.1, simp length-append at (ap length step.0)),
-      c.push_reserved.ensures.capacity ∙ c.loop-line.invariant.2,
-    )
+pub loop-index-preserved : goal.loop-index-preserved
+loop-index-preserved c =
+    let text = c.args.text.now in
+    let i = c.loop-index.index in
+    let rest = marks (i + 1) (drop (i + 1) text) in
+    elim c.if-byte-eq10.branch [
+      | then-byte-eq10 w ↦
+          let next = marks_yes text i c.loop-index-test.true w.if-byte-eq10.true in
+          let pushed : vec_items c.if-byte-eq10.ends ≡ vec_items c.loop-index.ends ++ (i + 1) ∷ [] = ap vec_items w.ends-is ∙ w.push_reserved.ensures.items in
+          (ap (λ t. t ++ rest) pushed ∙ append_assoc (vec_items c.loop-index.ends) ((i + 1) ∷ []) rest ∙ ap (λ t. vec_items c.loop-index.ends ++ t) (sym next) ∙ c.loop-index.invariant.0, ap vec_capacity w.ends-is ∙ w.push_reserved.ensures.capacity ∙ c.loop-index.invariant.1)
+      | else-byte-eq10 w ↦
+          let next = marks_no text i c.loop-index-test.true w.if-byte-eq10.false in
+          (ap (λ v. vec_items v ++ rest) w.ends-is ∙ ap (λ t. vec_items c.loop-index.ends ++ t) (sym next) ∙ c.loop-index.invariant.0, ap vec_capacity w.ends-is ∙ c.loop-index.invariant.1)
+    ]
+
+pub push_reserved-requires-then-ends_open : goal.push_reserved-requires-then-ends_open
+push_reserved-requires-then-ends_open c =
+    let text = c.args.text.now in
+    let made = simp length-append at (ap length (all_made text (vec_items c.args.ends.now) (vec_items c.loop-index.ends) c.loop-index.index c.loop-index.invariant.0 c.loop-index-test.false)) in
+    let more = simp length-append at (ap length (line_ends_open text (sym c.if-ends_open.true ∙ c.ends_open.ensures))) in
+    omega (arith, made, more, c.loop-index.invariant.1, c.loop-index.ends.ok.0, c.args.ends.now.ok.0)
+
+pub returns-then-ends_open-clause-items : goal.returns-then-ends_open-clause-items
+returns-then-ends_open-clause-items c =
+    let text = c.args.text.now in
+    let old = vec_items c.args.ends.now in
+    let made = all_made text old (vec_items c.loop-index.ends) c.loop-index.index c.loop-index.invariant.0 c.loop-index-test.false in
+    c.push_reserved-then-ends_open.ensures.items ∙ ap (λ t. t ++ length text ∷ []) made
+    ∙ append_assoc old (marks 0 text) (length text ∷ []) ∙ ap (λ t. old ++ t) (sym (line_ends_open text (sym c.if-ends_open.true ∙ c.ends_open.ensures)))
+
+pub returns-else-ends_open-clause-items : goal.returns-else-ends_open-clause-items
+returns-else-ends_open-clause-items c =
+    let text = c.args.text.now in
+    let old = vec_items c.args.ends.now in
+    let made = all_made text old (vec_items c.loop-index.ends) c.loop-index.index c.loop-index.invariant.0 c.loop-index-test.false in
+    made ∙ ap (λ t. old ++ t) (sym (line_ends_closed text (sym c.if-ends_open.false ∙ c.ends_open.ensures)))

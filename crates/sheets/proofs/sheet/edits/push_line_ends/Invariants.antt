@@ -1,12 +1,9 @@
-use Rattle.std.proofs.Common.{◌≡◌, ◌+◌, ◌++◌, length, vec_items, vec_capacity}
-use Rattle.std.specs.Slice.Iter.{split_inclusive_rest}
-use Rattle.sheets.specs.Table.{line_ends}
+use Rattle.std.proofs.Common.{◌≡◌, ◌++◌, drop, vec_items, vec_capacity}
+use Rattle.sheets.proofs.Lines.{marks}
 use Rattle.sheets.proofs.sheet.edits.push_line_ends.Given as goal
 
--- with the line ends that are left it makes all of them
-abbrev pub invariant-loop-line : goal.invariant-loop-line
-invariant-loop-line l =
-    let rest = split_inclusive_rest l.line-iterator in
-    (vec_items l.ends ++ line_ends l.end rest ≡ vec_items l.initial.ends ++ line_ends 0 l.text)
-    × (l.end + length rest ≡ length l.text)
+-- with the line ends at a 0A that are left it makes all of these
+abbrev pub invariant-loop-index : goal.invariant-loop-index
+invariant-loop-index l =
+    (vec_items l.ends ++ marks l.index (drop l.index l.text) ≡ vec_items l.initial.ends ++ marks 0 l.text)
     × (vec_capacity l.ends ≡ vec_capacity l.initial.ends)
