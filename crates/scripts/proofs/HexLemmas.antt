@@ -1,13 +1,16 @@
 -- One byte more in hex, and what is written reads back.
-use Rattle.std.proofs.Common.{◌≡◌, ◌≢◌, ℕ, zero, suc, ◌+◌, ◌-◌, ◌*◌, ◌/◌, ◌%◌, ◌<◌, ◌≤◌, true, false, cond, ◌&&◌, ltb, leb, [], ◌∷◌, ◌++◌, length, get_or, take, drop, Some, None, Option, sym, refl, ap, ◌∙◌, append_assoc, arith}
+use Rattle.std.proofs.Common.{◌≡◌, ◌≢◌, ℕ, zero, suc, ◌+◌, ◌-◌, ◌*◌, ◌/◌, ◌%◌, ◌<◌, ◌≤◌, true, false, cond, ◌&&◌, ltb, leb, [], ◌∷◌, ◌++◌, length, get_or, take, drop, Some, None, Option, sym, refl, ap, ◌∙◌, append_assoc, set, length-set, arith}
 use Rattle.std.specs.Option.{option_map}
 use Rattle.std.specs.List.{AllByRecursion}
 use Rattle.std.specs.Simd.{first_chunks}
-use Rattle.std.proofs.lemmas.List.{append-nil, get_or-take, get_or-drop, take_more, drop_more, drop_all}
+use Rattle.std.specs.Str.{IsAscii, IsUtf8}
+use Rattle.std.proofs.lemmas.List.{append-nil, get_or-take, get_or-drop, take_more, take_more_set, drop_more, drop_all}
 use Rattle.std.proofs.lemmas.Bool.{cond-true, cond-false, ne_eqb}
 use Rattle.std.proofs.lemmas.Bool.Decides.{nat_tests}
+use Rattle.std.proofs.lemmas.Str.{IsUtf8-from_ascii}
+use Rattle.std.proofs.lemmas.Str.Ascii.{IsAscii-nil, IsAscii-cons}
 use Rattle.scripts.specs.Words.{Bytes, is_digit}
-use Rattle.scripts.specs.Hex.{hex_value, both, pair_value, pairs_bytes, hex_bytes, hex_digit, pairs_text, hex_text}
+use Rattle.scripts.specs.Hex.{hex_value, both, pair_value, pairs_bytes, hex_bytes, hex_digit, pair_text, pairs_text, hex_text}
 
 -- the bytes of the pairs
 pub chunk_at : (n i k : ℕ) (word : Bytes) (d : Bytes) → i < n → k < 2 → get_or (get_or (first_chunks 2 n word) i d) k 0 ≡ get_or word (2 * i + k) 0
@@ -76,12 +79,48 @@ pairs_append [] ys = refl
 pairs_append (x ∷ xs) ys = ap (λ t. hex_digit (x / 16) ∷ (hex_digit (x % 16) ∷ t)) (pairs_append xs ys)
 
 -- one byte more of the text
-pub text_next : (bytes : Bytes) (i : ℕ) (b : ℕ) → i < length bytes → get_or bytes i 0 ≡ b
-    → pairs_text (take i bytes) ++ hex_digit (b / 16) ∷ (hex_digit (b % 16) ∷ []) ≡ pairs_text (take (i + 1) bytes)
+text_next : (bytes : Bytes) (i : ℕ) → i < length bytes → pairs_text (take i bytes) ++ pair_text (get_or bytes i 0) ≡ pairs_text (take (i + 1) bytes)
 unfolding pairs_text
-text_next bytes i b h e =
-    ap (λ x. pairs_text (take i bytes) ++ hex_digit (x / 16) ∷ (hex_digit (x % 16) ∷ [])) (sym e)
-    ∙ sym (pairs_append (take i bytes) (get_or bytes i 0 ∷ [])) ∙ ap pairs_text (sym (take_more bytes i 0 h))
+text_next bytes i h = sym (pairs_append (take i bytes) (get_or bytes i 0 ∷ [])) ∙ ap pairs_text (sym (take_more bytes i 0 h))
+
+-- its digits, stored behind those before it
+pub digits_next : (digits bytes : Bytes) (i : ℕ) (pair : Bytes) → i < length bytes → 2 * i + 1 < length digits → pair ≡ pair_text (get_or bytes i 0)
+    → take (2 * i) digits ≡ pairs_text (take i bytes)
+    → take (2 * (i + 1)) (set (set digits (2 * i) (get_or pair 0 0)) (2 * i + 1) (get_or pair 1 0)) ≡ pairs_text (take (i + 1) bytes)
+digits_next digits bytes i pair h long same so_far =
+    let high = get_or pair 0 0 in
+    let low = get_or pair 1 0 in
+    let one = set digits (2 * i) high in
+    let size : length one ≡ length digits = length-set digits (2 * i) high in
+    let next : 2 * (i + 1) ≡ (2 * i + 1) + 1 = omega arith in
+    ap (λ n. take n (set one (2 * i + 1) low)) next
+    ∙ take_more_set one (2 * i + 1) low (omega arith)
+    ∙ ap (λ t. t ++ low ∷ []) (take_more_set digits (2 * i) high (omega arith))
+    ∙ append_assoc (take (2 * i) digits) (high ∷ []) (low ∷ [])
+    ∙ ap (λ t. t ++ high ∷ (low ∷ [])) so_far
+    ∙ ap (λ (p : Bytes). pairs_text (take i bytes) ++ get_or p 0 0 ∷ (get_or p 1 0 ∷ [])) same
+    ∙ text_next bytes i h
+
+pairs_ascii : (bs : Bytes) → AllByRecursion (λ b. b < 256) bs → IsAscii (pairs_text bs)
+unfolding pairs_text
+pairs_ascii [] a = IsAscii-nil
+pairs_ascii (b ∷ bs) a =
+    let digit : (d : ℕ) → d < 16 → hex_digit d < 128 = λ d h. grind (arith, nat_tests) in
+    let low = IsAscii-cons (hex_digit (b % 16)) (pairs_text bs) (digit (b % 16) (omega arith)) (pairs_ascii bs a.1) in
+    IsAscii-cons (hex_digit (b / 16)) (hex_digit (b % 16) ∷ pairs_text bs) (digit (b / 16) (omega arith)) low
+
+pub pairs_utf8 : (bs : Bytes) → AllByRecursion (λ b. b < 256) bs → IsUtf8 (pairs_text bs)
+pairs_utf8 bs a = IsUtf8-from_ascii (pairs_text bs) (pairs_ascii bs a)
+
+-- the text of a first piece, and of the rest
+pub text_parts : (all piece rest done : Bytes) → all ≡ piece ++ rest → (done ++ pairs_text piece) ++ pairs_text rest ≡ done ++ pairs_text all
+text_parts all piece rest done e =
+    append_assoc done (pairs_text piece) (pairs_text rest) ∙ ap (λ t. done ++ t) (sym (pairs_append piece rest) ∙ ap pairs_text (sym e))
+
+pub text_over : (rest done : Bytes) → length rest ≡ 0 → done ++ pairs_text rest ≡ done
+unfolding pairs_text
+text_over [] done h = append-nil done
+text_over (b ∷ bs) done h = absurd (omega arith)
 
 pub text_none : (bytes : Bytes) → length bytes ≡ 0 → 45 ∷ [] ≡ hex_text bytes
 unfolding hex_text

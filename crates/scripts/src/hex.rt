@@ -1,12 +1,13 @@
 // Bytes as lower-case hex, and no bytes as `-`.
-ghost use Rattle.std.specs.Prelude.{◌≡◌, ◌++◌, ◌<◌, Some, IfSome, OnOk, string_bytes, vec_items};
-ghost use Rattle.scripts.specs.Hex.{hex_value, pair_value, pairs_bytes, hex_bytes, array_of, pair_text, hex_text};
+ghost use Rattle.std.specs.Prelude.{◌≡◌, ◌++◌, ◌*◌, ◌<◌, ◌≤◌, length, take, Some, IfSome, OnOk, string_bytes, vec_items};
+ghost use Rattle.std.specs.Fmt.{WritesOnOk};
+ghost use Rattle.scripts.specs.Hex.{hex_value, pair_value, pairs_bytes, hex_bytes, array_of, hex_digit, pair_text, pairs_text, hex_text};
 ghost use Rattle.scripts.specs.Reading.{Reads};
 
 use crate::error::ParseError;
 use std::alloc::{AllocError, Global};
-use std::fmt;
 use std::fmt::Write;
+use std::{fmt, str};
 
 // The bytes that a hex word stands for: `-` is no bytes, and any other word has two lower-case digits for each.
 #[tactic(auto, using(crate::proofs::HexLemmas::hex_cases))]
@@ -65,20 +66,6 @@ fn decode_digit(digit: u8) -> Option<u8>
     }
 }
 
-// A byte that prints as its two digits. A type of its own, so that the loop over the bytes is proved by what each prints.
-#[derive(Clone, Copy)]
-struct HexByte(u8);
-
-impl fmt::Display for HexByte {
-    ghost output = { λ b. Some (pair_text b.0) };
-
-    #[tactic(auto, using(std::proofs::lemmas::Fmt::hex_byte))]
-    fn fmt<W: fmt::Write>(&self, f: &mut fmt::Formatter<W>) -> fmt::Result {
-        let byte = self.0;
-        write!(f, "{byte:02x}")
-    }
-}
-
 // Bytes that print as hex.
 #[derive(Clone, Copy)]
 pub struct Hex<'a>(pub &'a [u8]);
@@ -90,10 +77,50 @@ impl fmt::Display for Hex<'_> {
         if self.0.is_empty() {
             return f.write_str("-");
         }
-        for &byte in self.0 {
-            write!(f, "{}", HexByte(byte))?;
+        for piece in self.0.chunks(32) {
+            write_piece(f, piece)?;
         }
         Ok(())
+    }
+}
+
+// A call of the writer costs far more than a digit, so a piece is one call.
+fn write_piece<W: fmt::Write>(f: &mut fmt::Formatter<W>, piece: &[u8]) -> fmt::Result
+    requires { length piece.now ≤ 32 }
+    ensures { WritesOnOk W.write_str_gives f.old result (pairs_text piece.now) f.new }
+{
+    let digits = encode_piece(piece);
+    f.write_str(str::from_utf8(&digits[..2 * piece.len()]).unwrap())
+}
+
+// The digits of a piece, and zeros after them.
+fn encode_piece(piece: &[u8]) -> [u8; 64]
+    requires { length piece.now ≤ 32 }
+    ensures { take (2 * length piece.now) result ≡ pairs_text piece.now }
+{
+    let mut digits = [0; 64];
+    for i in 0..piece.len() {
+        let [high, low] = encode_pair(piece[i]);
+        digits[2 * i] = high;
+        digits[2 * i + 1] = low;
+    }
+    digits
+}
+
+fn encode_pair(byte: u8) -> [u8; 2]
+    ensures { result ≡ pair_text byte }
+{
+    [encode_digit(byte / 16), encode_digit(byte % 16)]
+}
+
+fn encode_digit(value: u8) -> u8
+    requires { value < 16 }
+    ensures { result ≡ hex_digit value }
+{
+    if value < 10 {
+        b'0' + value
+    } else {
+        b'a' - 10 + value
     }
 }
 
