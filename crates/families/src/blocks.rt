@@ -33,9 +33,9 @@ impl<const MOST: u16> BlockCount<MOST> {
     }
 }
 
-// Whether a row or a block has a number from 1 up to a count. Each `holds` asks it: one `holds` for all kinds would need a second question beside it, that asks for numbers within.
+// Whether a row or a block has a number from 1 up to a count. No `contains` of a range, which measured slower. Each `holds` asks it: one `holds` for all kinds would need a second question beside it, that asks for numbers within.
 pub(crate) fn is_within(count: u16, number: u16) -> bool
     ensures { result ≡ within count number }
 {
-    (1..=count).contains(&number)
+    1 <= number && number <= count
 }

@@ -78,10 +78,11 @@ impl Family for Plane {
     }
 }
 
-// No `index` of the block: it would be unwrapped at once.
+// No `index` of the block: it would be unwrapped at once. And no `contains`, which measured a quarter slower for three.
 fn on_line(row: RowNumber, block: BlockNumber) -> bool
     requires { (1 ≤ block.0) × (block.0 ≤ 12) }
     ensures { result ≡ plane_held row.0 block.0 }
 {
-    LINES[usize::from(block.0) - 1].contains(&row.0)
+    let [first, second, third] = LINES[usize::from(block.0) - 1];
+    row.0 == first || row.0 == second || row.0 == third
 }

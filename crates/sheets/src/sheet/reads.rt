@@ -75,10 +75,12 @@ impl Sheet {
             (λ e. Err e ≡ block_answer (blocks_of self.now) number.0) }
     {
         let ends = self.ends();
-        let index = number
-            .index()
-            .filter(|index| *index < ends.len())
-            .ok_or(Refusal::NoSuchBlock)?;
+        let Some(index) = number.index() else {
+            return Err(Refusal::NoSuchBlock);
+        };
+        if index >= ends.len() {
+            return Err(Refusal::NoSuchBlock);
+        }
         let start = if index == 0 { 0 } else { ends[index - 1] };
         let span = usize::from(start)..usize::from(ends[index]);
         Ok(Place { index, span })

@@ -7,7 +7,7 @@ use Rattle.sheets.proofs.sheet.Sheet.place.Goals.{then-index-eq0, else-index-eq0
 pub returns : goal.returns
 returns c =
     let ends = c.ends-ends.result.now in
-    let i = c.in_ok-index.index in
+    let i = c.in-Some.index in
     let number : i + 1 ≡ c.args.number.0 = grind (arith, common_steps) in
     let short : i < length ends = grind (arith, common_steps) in
     let from : c.from.result ≡ get_or (0 ∷ ends) i 0
