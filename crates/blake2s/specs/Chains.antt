@@ -61,3 +61,7 @@ module _ (bs more : Bytes) (n : ℕ) (whole : length bs ≡ 64 * n) where
       ap (λ h. closed h more) (sym (chained_front bs more n (omega arith)))
       ∙ ap (closed (chained all n)) (sym (block_behind bs more n whole short))
       ∙ ap (λ k. closed (chained all k) (block_at all k)) (sym (before_last short some))
+
+-- the number by which a seal names it
+pub kind_known : (1 ≤ 2) × (2 ≤ 255)
+kind_known = (omega arith, omega arith)

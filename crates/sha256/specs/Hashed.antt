@@ -63,3 +63,7 @@ finished bs last count message whole is size =
 pub length_sha256_of : (bs : Bytes) → length (sha256_of bs) ≡ 32
 unfolding state_bytes sha256_of
 length_sha256_of bs = refl
+
+-- the number by which a seal names it
+pub kind_known : (1 ≤ 1) × (1 ≤ 255)
+kind_known = (omega arith, omega arith)

@@ -1,9 +1,8 @@
 // The hash value over whole blocks, and the padding of the last bytes.
-ghost use Rattle.std.proofs.Common.{rules};
 ghost use Rattle.std.specs.Prelude.{◌≡◌, ◌+◌, ◌-◌, ◌*◌, ◌/◌, ◌%◌, ◌^◌, ◌≤◌, [], ◌∷◌, ◌++◌, length, replicate};
 ghost use Rattle.sha256.specs.Absorbed.{Absorbed};
 ghost use Rattle.sha256.specs.Sha256.{initial, compressed, u64_bytes, padding, hashed, state_bytes, sha256_of};
-ghost use Rattle.sha256.specs.Hashed.{length_sha256_of};
+ghost use Rattle.sha256.specs.Hashed.{kind_known, length_sha256_of};
 
 use crate::block::compress;
 use crate::state::State;
@@ -20,7 +19,7 @@ impl Numbered for Chain {
 
     ghost KIND = { 1 };
 
-    ghost kind_range = { Prim.search rules };
+    ghost kind_range = { kind_known };
 }
 
 impl Compressor for Chain {
